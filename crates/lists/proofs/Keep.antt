@@ -1,0 +1,118 @@
+-- Laws of keeping, testing and counting over a list.
+-- Assumes nothing.
+use Prim.Native.Nat.{ℕ, zero, suc, _+_, _≤_}
+use mathlib.Core.Path.{_≡_, refl, sym, ap, _∙_}
+use mathlib.Core.Bool.{Bool, true, false, cond, not, _||_, _&&_, false≢true}
+use mathlib.Core.List.{List, [], _∷_, _++_, map, append-assoc, List·Memᴰ, List·Memᴰ·head, List·Memᴰ·tail}
+use native.Mathlib.Omega.{arith}
+use lib.ListN.{length, length-append}
+use Rattle.lists.specs.Lists.{consIf, keep, any, all, filled, changeIf, Every, concatMap}
+use Rattle.lists.proofs.Tests.{or-left, or-right, or-assoc, and-left, and-right}
+
+module _ {A : Type 0} where
+  -- a test that implies another sees nothing of what the other leaves out
+  pub keep-keep : (p q : A → Bool) → ((x : A) → q x ≡ true → p x ≡ true) → (l : List A) → keep q (keep p l) ≡ keep q l
+  keep-keep p q imp [] = refl
+  keep-keep p q imp (x ∷ l) = go (keep-keep p q imp l) (p x) (q x) refl refl
+    where
+      go : keep q (keep p l) ≡ keep q l → (a b : Bool) → p x ≡ a → q x ≡ b → keep q (keep p (x ∷ l)) ≡ keep q (x ∷ l)
+      go ih true b e f = simp (e, ih)
+      go ih false true e f = absurd (false≢true (sym e ∙ imp x f))
+      go ih false false e f = simp (e, f, ih)
+
+  -- tests that agree on the members keep the same and find the same
+  pub keep-same : (p q : A → Bool) (l : List A) → ((x : A) → List·Memᴰ x l → p x ≡ q x) → keep p l ≡ keep q l
+  keep-same p q [] h = refl
+  keep-same p q (x ∷ l) h = rw (h x (List·Memᴰ·head refl), keep-same p q l (λ y m. h y (List·Memᴰ·tail m)))
+
+  pub any-same : (p q : A → Bool) (l : List A) → ((x : A) → List·Memᴰ x l → p x ≡ q x) → any p l ≡ any q l
+  any-same p q [] h = refl
+  any-same p q (x ∷ l) h = rw (h x (List·Memᴰ·head refl), any-same p q l (λ y m. h y (List·Memᴰ·tail m)))
+
+  pub any-has : (p : A → Bool) {x : A} {l : List A} → List·Memᴰ x l → p x ≡ true → any p l ≡ true
+  any-has p (List·Memᴰ·head {x = y} {xs = l} e) h = or-left (p y) (any p l) (ap p (sym e) ∙ h)
+  any-has p (List·Memᴰ·tail {x = y} {xs = l} m) h = or-right (p y) (any p l) (any-has p m h)
+
+  pub any-more : (p q : A → Bool) → ((x : A) → p x ≡ true → q x ≡ true) → (l : List A) → any p l ≡ true → any q l ≡ true
+  any-more p q imp [] h = absurd (false≢true h)
+  any-more p q imp (x ∷ l) h = go (any-more p q imp l) (p x) refl
+    where
+      go : (any p l ≡ true → any q l ≡ true) → (a : Bool) → p x ≡ a → any q (x ∷ l) ≡ true
+      go ih true e = or-left (q x) (any q l) (imp x e)
+      go ih false e = or-right (q x) (any q l) (ih (rw e at h))
+
+  pub any-keep : (p q : A → Bool) (l : List A) → any p (keep q l) ≡ true → any p l ≡ true
+  any-keep p q [] h = h
+  any-keep p q (x ∷ l) h = go (any-keep p q l) (p x) (q x) refl refl
+    where
+      go : (any p (keep q l) ≡ true → any p l ≡ true) → (a b : Bool) → p x ≡ a → q x ≡ b → any p (x ∷ l) ≡ true
+      go ih true b e f = rw e
+      go ih false true e f = rw e (ih (simp (f, e) at h))
+      go ih false false e f = rw e (ih (simp f at h))
+
+  pub any-append : (p : A → Bool) (a b : List A) → any p (a ++ b) ≡ any p a || any p b
+  any-append p [] b = refl
+  any-append p (x ∷ a) b = rw (any-append p a b) (sym (or-assoc (p x) (any p a) (any p b)))
+
+  -- what falls first, and what falls of the rest, are as many as fall in the end
+  pub keep-count : (p q : A → Bool) → ((x : A) → q x ≡ true → p x ≡ true) → (l : List A) →
+      length (keep (λ x. not (p x)) l) + length (keep (λ x. not (q x)) (keep p l)) ≡ length (keep (λ x. not (q x)) l)
+  keep-count p q imp [] = refl
+  keep-count p q imp (x ∷ l) = go (keep-count p q imp l) (p x) (q x) refl refl
+    where
+      go : length (keep (λ x. not (p x)) l) + length (keep (λ x. not (q x)) (keep p l)) ≡ length (keep (λ x. not (q x)) l) →
+          (a b : Bool) → p x ≡ a → q x ≡ b →
+          length (keep (λ x. not (p x)) (x ∷ l)) + length (keep (λ x. not (q x)) (keep p (x ∷ l))) ≡ length (keep (λ x. not (q x)) (x ∷ l))
+      go ih true true e f = simp (e, f) ih
+      go ih true false e f = simp (e, f) (omega arith)
+      go ih false true e f = absurd (false≢true (sym e ∙ imp x f))
+      go ih false false e f = simp (e, f) (omega arith)
+
+  pub length-keep : (p : A → Bool) (l : List A) → length (keep p l) ≤ length l
+  length-keep p [] = omega arith
+  length-keep p (x ∷ l) = go (length-keep p l) (p x)
+    where
+      go : length (keep p l) ≤ length l → (b : Bool) → length (consIf b x (keep p l)) ≤ suc (length l)
+      go ih true = omega arith
+      go ih false = omega arith
+
+  pub length-changeIf : (p : A → Bool) (f : A → A) (l : List A) → length (changeIf p f l) ≡ length l
+  length-changeIf p f [] = refl
+  length-changeIf p f (x ∷ l) = ap suc (length-changeIf p f l)
+
+  -- what holds of each
+  pub every-keep : (P : A → Type 0) (p : A → Bool) (l : List A) → Every P l → Every P (keep p l)
+  every-keep P p [] v = tt
+  every-keep P p (x ∷ l) v = go (every-keep P p l (v .1)) (p x)
+    where
+      go : Every P (keep p l) → (b : Bool) → Every P (consIf b x (keep p l))
+      go ih true = (v .0, ih)
+      go ih false = ih
+
+  pub every-more : (P Q : A → Type 0) → ((x : A) → P x → Q x) → (l : List A) → Every P l → Every Q l
+  every-more P Q imp [] v = tt
+  every-more P Q imp (x ∷ l) v = (imp x (v .0), every-more P Q imp l (v .1))
+
+  pub every-changeIf : (P : A → Type 0) (p : A → Bool) (f : A → A) (l : List A) → ((x : A) → P x → P (f x)) → Every P l → Every P (changeIf p f l)
+  every-changeIf P p f [] c v = tt
+  every-changeIf P p f (x ∷ l) c v = (go (p x), every-changeIf P p f l c (v .1))
+    where
+      go : (b : Bool) → P (cond b (f x) x)
+      go true = c x (v .0)
+      go false = v .0
+
+  pub every-member : (P : A → Type 0) {x : A} (l : List A) → Every P l → List·Memᴰ x l → P x
+  every-member P (y ∷ l) v (List·Memᴰ·head e) = rw e (v .0)
+  every-member P (y ∷ l) v (List·Memᴰ·tail m) = every-member P l (v .1) m
+
+  pub every-all : (p : A → Bool) (l : List A) → all p l ≡ true → Every (λ x. p x ≡ true) l
+  every-all p [] h = tt
+  every-all p (x ∷ l) h = (and-left (p x) (all p l) h, every-all p l (and-right (p x) (all p l) h))
+
+  pub every-append : (P : A → Type 0) (a b : List A) → Every P a → Every P b → Every P (a ++ b)
+  every-append P [] b v w = w
+  every-append P (x ∷ a) b v w = (v .0, every-append P a b (v .1) w)
+
+pub concatMap-append : {A B : Type 0} (f : A → List B) (a b : List A) → concatMap f (a ++ b) ≡ concatMap f a ++ concatMap f b
+concatMap-append f [] b = refl
+concatMap-append f (x ∷ a) b = rw (concatMap-append f a b, append-assoc)

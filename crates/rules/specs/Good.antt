@@ -1,0 +1,113 @@
+-- What every ledger that calls reach has, and nothing that need not be so.
+use Prim.Native.Nat.{ℕ, zero, suc, _+_, _≤_, _<_}
+use mathlib.Core.Path.{_≡_}
+use mathlib.Core.Bool.{Bool, true, false}
+use mathlib.Core.List.{List, [], _∷_}
+use mathlib.Core.Option.{Option, none, some}
+use lib.ListN.{length}
+use Rattle.lists.specs.Lists.{Every, Ascending, has, filled, self}
+use Rattle.rules.specs.Numbers.{isWord, isTime, isShard, isSpan, maxEntries, maxDepartures, maxRoutes, maxCore, maxEdges, maxDestinations, maxAbsences, maxCount}
+use Rattle.rules.specs.Plain.{Part, whole, leg, core, remainder, Edge, Terms, Absence, Entry, Departure, Plain, transactionOf, absenceKey, shardOf, issues, owes}
+use Rattle.rules.specs.Calls.{Call, admission, absence, certify, abandonment, settled, returned, closes, fated, finalization, forget, terminal, stamp, prune}
+
+abbrev pub Holds : (ℕ → Bool) → ℕ → Type 0
+Holds test n = test n ≡ true
+
+-- at most a number of elements, each of which passes the test
+pub record Within (limit : ℕ) (test : ℕ → Bool) (l : List ℕ) : Type 0 where
+  pub size : length l ≤ limit
+  pub each : Every (Holds test) l
+
+pub record GoodEdge (g : Edge) : Type 0 where
+  pub id : isWord (g .id) ≡ true
+  pub from : isShard (g .from) ≡ true
+  pub kind : g .kind ≤ 1
+  pub to : Within maxDestinations isShard (g .to)
+  pub rising : Ascending self (g .to)
+
+pub record GoodTerms (t : Terms) : Type 0 where
+  pub transaction : isWord (t .transaction) ≡ true
+  pub at : isTime (t .at) ≡ true
+  pub end : isTime (t .end) ≡ true
+  pub anchor : isTime (t .anchor) ≡ true
+  pub charge : isWord (t .charge) ≡ true
+  pub routes : Within maxRoutes isWord (t .routes)
+  pub coreShards : Within maxCore isShard (t .coreShards)
+  pub rising : Ascending self (t .coreShards)
+  pub edgeCount : length (t .edges) ≤ maxEdges
+  pub edges : Every GoodEdge (t .edges)
+
+pub record GoodAbsence (a : Absence) : Type 0 where
+  pub shard : isShard (a .shard) ≡ true
+  pub key : isWord (a .key) ≡ true
+
+-- nothing is marked
+pub record Unmarked (e : Entry) : Type 0 where
+  pub marks : e .marks ≡ []
+  pub returned : e .returned ≡ false
+
+-- the marks rise and are among the issued records; a return is a mark
+pub record Marked (local : ℕ) (e : Entry) : Type 0 where
+  pub rising : Ascending self (e .marks)
+  pub among : Every (λ r. issues local r e ≡ true) (e .marks)
+  pub returned : e .returned ≡ true → filled (e .marks) ≡ true
+
+-- what each part goes with: a whole entry holds no core and no edges, a core or remainder has local in its core, a leg has
+-- not, and a remainder has an owed edge from local
+abbrev pub GoodPart : Part → ℕ → Entry → Type 0
+GoodPart whole local e = (e .terms .coreShards ≡ []) × (e .terms .edges ≡ []) × Unmarked e
+GoodPart leg local e = (has self local (e .terms .coreShards) ≡ false) × Marked local e
+GoodPart core local e = (has self local (e .terms .coreShards) ≡ true) × Unmarked e
+GoodPart remainder local e = (has self local (e .terms .coreShards) ≡ true) × (owes local e ≡ true) × Marked local e
+
+-- no record names the entry, or a shard's does
+abbrev pub isNaming : ℕ → Bool
+isNaming zero = true
+isNaming (suc n) = isShard (suc n)
+
+pub record GoodEntry (local : ℕ) (e : Entry) : Type 0 where
+  pub terms : GoodTerms (e .terms)
+  pub certificate : e .certificate ≤ 2
+  pub naming : isNaming (e .naming) ≡ true
+  pub absenceCount : length (e .absences) ≤ maxAbsences
+  pub absences : Every GoodAbsence (e .absences)
+  pub absenceOrder : Ascending absenceKey (e .absences)
+  pub part : GoodPart (e .part) local e
+
+abbrev pub GoodStamp : Option ℕ → Type 0
+GoodStamp none = Unit {0}
+GoodStamp (some until) = isTime until ≡ true
+
+pub record GoodDeparture (d : Departure) : Type 0 where
+  pub shard : isShard (d .shard) ≡ true
+  pub cut : isTime (d .cut) ≡ true
+  pub stamp : GoodStamp (d .stamp)
+
+pub record Good (p : Plain) : Type 0 where
+  pub local : isShard (p .local) ≡ true
+  pub validity : isSpan (p .validity) ≡ true
+  pub coreSpan : isSpan (p .coreSpan) ≡ true
+  pub legSpan : isSpan (p .legSpan) ≡ true
+  pub entryCount : length (p .entries) ≤ maxEntries
+  pub entries : Every (GoodEntry (p .local)) (p .entries)
+  pub entryOrder : Ascending transactionOf (p .entries)
+  pub departureCount : length (p .departures) ≤ maxDepartures
+  pub departures : Every GoodDeparture (p .departures)
+  pub departureOrder : Ascending shardOf (p .departures)
+  pub rebuilt : p .rebuilt ≤ maxCount
+
+-- the numbers of a call are words
+abbrev pub OfWords : Call → Type 0
+OfWords (admission ws) = Every (Holds isWord) ws
+OfWords (absence t shard key) = isWord key ≡ true
+OfWords (certify t code) = Unit {0}
+OfWords (abandonment ws) = Every (Holds isWord) ws
+OfWords (settled r t) = Unit {0}
+OfWords (returned r t) = Unit {0}
+OfWords (closes room) = Unit {0}
+OfWords (fated t) = Unit {0}
+OfWords (finalization ws) = Unit {0}
+OfWords (forget t) = Unit {0}
+OfWords (terminal shard cut isStamped until) = Unit {0}
+OfWords (stamp shard until) = Unit {0}
+OfWords (prune now room) = Unit {0}

@@ -1,0 +1,11 @@
+pub mod Numbers
+pub mod Plain
+pub mod Words
+pub mod Index
+pub mod Prune
+pub mod Outcome
+pub mod Entries
+pub mod Calls
+pub mod Readings
+pub mod Good
+pub mod Instances
