@@ -6,7 +6,7 @@ use mathlib.Core.Bool.{Bool, true, false, cond, not, _||_, _&&_, false≢true}
 use mathlib.Core.List.{List, [], _∷_, _++_, map, append-assoc, List·Memᴰ, List·Memᴰ·head, List·Memᴰ·tail}
 use native.Mathlib.Omega.{arith}
 use lib.ListN.{length, length-append}
-use Rattle.lists.specs.Lists.{consIf, keep, any, all, filled, changeIf, Every, concatMap}
+use Rattle.lists.specs.Lists.{consIf, keep, any, all, filled, changeIf, Every, allOf, concatMap}
 use Rattle.lists.proofs.Tests.{or-left, or-right, or-assoc, and-left, and-right}
 
 module _ {A : Type 0} where
@@ -112,6 +112,14 @@ module _ {A : Type 0} where
   pub every-append : (P : A → Type 0) (a b : List A) → Every P a → Every P b → Every P (a ++ b)
   every-append P [] b v w = w
   every-append P (x ∷ a) b v w = (v .0, every-append P a b (v .1) w)
+
+-- the tests that passed together, one by one
+abbrev pub Passed : Bool → Type 0
+Passed b = b ≡ true
+
+pub each-of : (l : List Bool) → allOf l ≡ true → Every Passed l
+each-of [] h = tt
+each-of (b ∷ l) h = (and-left b (allOf l) h, each-of l (and-right b (allOf l) h))
 
 pub concatMap-append : {A B : Type 0} (f : A → List B) (a b : List A) → concatMap f (a ++ b) ≡ concatMap f a ++ concatMap f b
 concatMap-append f [] b = refl

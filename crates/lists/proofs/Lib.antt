@@ -1,3 +1,5 @@
 pub mod Tests
 pub mod Keep
 pub mod Order
+pub mod Change
+pub mod Parts

@@ -95,7 +95,7 @@ module _ {A : Type 0} (key : A → ℕ) where
   length-includeAll [] l = omega arith
   length-includeAll (e ∷ es) l = omega (arith, length-include e (includeAll key es l), length-includeAll es l)
 
-  above-lacks : (t k : ℕ) (l : List A) → t ≤ k → Above key k l → has key t l ≡ false
+  pub above-lacks : (t k : ℕ) (l : List A) → t ≤ k → Above key k l → has key t l ≡ false
   above-lacks t k [] h a = refl
   above-lacks t k (x ∷ l) h a = rw (ne-eqb (key x) t (omega (arith, a .0))) (above-lacks t k l h (a .1))
 

@@ -52,3 +52,7 @@ by-cond P false x y f g = g refl
 pub cond-same : {A B : Type 0} (f : A → B) (b : Bool) (x y : A) → f (cond b x y) ≡ cond b (f x) (f y)
 cond-same f true x y = refl
 cond-same f false x y = refl
+
+pub cond-both : {A : Type 0} (b : Bool) (x : A) → cond b x x ≡ x
+cond-both true x = refl
+cond-both false x = refl

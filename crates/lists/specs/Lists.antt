@@ -104,6 +104,11 @@ module _ {A : Type 0} where
     ascending [] = true
     ascending (x ∷ l) = aboveAll (key x) l && ascending l
 
+-- whether each of some tests passed
+abbrev pub allOf : List Bool → Bool
+allOf [] = true
+allOf (b ∷ l) = b && allOf l
+
 -- what f says of each, end to end
 abbrev pub concatMap : {A B : Type 0} → (A → List B) → List A → List B
 concatMap f [] = []

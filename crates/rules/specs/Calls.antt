@@ -6,7 +6,7 @@ use mathlib.Core.List.{List, [], _∷_, _++_, map}
 use mathlib.Core.Option.{Option, none, some}
 use lib.Dec.{eqb, ltb, leb}
 use lib.ListN.{length}
-use Rattle.lists.specs.Lists.{keep, any, filled, has, get, include, without, change, concatMap, self, setOf}
+use Rattle.lists.specs.Lists.{keep, allOf, has, include, without, change, concatMap, setOf}
 use Rattle.rules.specs.Numbers.{isTime, isShard, isSpan, maxEntries, maxAbsences, maxDepartures, maxCount}
 use Rattle.rules.specs.Plain.{Terms, Absence, Entry, Departure, Plain, isLeg, transactionOf, shardOf, empty, withEntries, withDepartures, withRebuilt, owed, entryOf}
 use Rattle.rules.specs.Words.{transactionWords, admissionTerms, admissionFormed, admissionTimed, admissionPlaced, recordShard, recordGroups, recordFormed, recordTimed, finalizationLines, deciding, finalizationFormed}
@@ -18,7 +18,7 @@ use Rattle.rules.specs.Outcome.{Outcome, done, unless, _gives_then_, too
 abbrev pub makingRefusal : ℕ → ℕ → ℕ → ℕ → ℕ
 makingRefusal local v c l =
     not (isShard local) gives 1 then
-    not (isSpan v && isSpan c && isSpan l) gives 2 then 0
+    not (allOf (isSpan v ∷ isSpan c ∷ isSpan l ∷ [])) gives 2 then 0
 
 unfoldable pub making : ℕ → ℕ → ℕ → ℕ → Outcome
 making local v c l = unless (makingRefusal local v c l) (empty 1 1 1 1) (done [] (empty local v c l))

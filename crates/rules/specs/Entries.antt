@@ -121,7 +121,7 @@ certified code e = withCertificate (cond (ltb (e .certificate) code) code (e .ce
 -- Settled and returned mark the record; they act only where the entry issued it and the part is leg or remainder.
 abbrev pub marked : ℕ → ℕ → Bool → Entry → Entry
 marked local r isReturn e =
-    cond (isSettling (e .part) && issues local r e)
+    cond (isSettling (e .part) && issues local r (e .terms))
     (withMarks (include self r (e .marks)) (e .returned || isReturn) e)
     e
 
@@ -129,7 +129,7 @@ marked local r isReturn e =
 abbrev pub isClosed : ℕ → Entry → Bool
 isClosed local e =
     isSettling (e .part)
-    && (filled (issued local e) && all (λ r. has self r (e .marks)) (issued local e))
+    && (filled (issued local (e .terms)) && all (λ r. has self r (e .marks)) (issued local (e .terms)))
 
 -- Aborted (2) if any mark was a return, else Accept (1)
 abbrev pub closingDecision : Entry → ℕ
@@ -161,7 +161,7 @@ pub data Ruling : Type 0 where
 abbrev pub rulingOn : ℕ → List ℕ → Line → Entry → Ruling
 rulingOn local deciding line e =
     cond (isSettling (e .part) && not (has self (line .transaction) deciding)) skip
-    (cond (eqb (line .decision) 1 && (isCore (e .part) && owes local e)) turn
+    (cond (eqb (line .decision) 1 && (isCore (e .part) && owes local (e .terms))) turn
     release)
 
 -- unknown is skipped

@@ -42,23 +42,24 @@ pub record GoodAbsence (a : Absence) : Type 0 where
   pub key : isWord (a .key) ≡ true
 
 -- nothing is marked
-pub record Unmarked (e : Entry) : Type 0 where
-  pub marks : e .marks ≡ []
-  pub returned : e .returned ≡ false
+pub record Unmarked (marks : List ℕ) (isReturned : Bool) : Type 0 where
+  pub none : marks ≡ []
+  pub returned : isReturned ≡ false
 
 -- the marks rise and are among the issued records; a return is a mark
-pub record Marked (local : ℕ) (e : Entry) : Type 0 where
-  pub rising : Ascending self (e .marks)
-  pub among : Every (λ r. issues local r e ≡ true) (e .marks)
-  pub returned : e .returned ≡ true → filled (e .marks) ≡ true
+pub record Marked (local : ℕ) (t : Terms) (marks : List ℕ) (isReturned : Bool) : Type 0 where
+  pub rising : Ascending self marks
+  pub among : Every (λ r. issues local r t ≡ true) marks
+  pub returned : isReturned ≡ true → filled marks ≡ true
 
 -- what each part goes with: a whole entry holds no core and no edges, a core or remainder has local in its core, a leg has
 -- not, and a remainder has an owed edge from local
-abbrev pub GoodPart : Part → ℕ → Entry → Type 0
-GoodPart whole local e = (e .terms .coreShards ≡ []) × (e .terms .edges ≡ []) × Unmarked e
-GoodPart leg local e = (has self local (e .terms .coreShards) ≡ false) × Marked local e
-GoodPart core local e = (has self local (e .terms .coreShards) ≡ true) × Unmarked e
-GoodPart remainder local e = (has self local (e .terms .coreShards) ≡ true) × (owes local e ≡ true) × Marked local e
+abbrev pub GoodPart : Part → ℕ → Terms → List ℕ → Bool → Type 0
+GoodPart whole local t marks isReturned = (t .coreShards ≡ []) × (t .edges ≡ []) × Unmarked marks isReturned
+GoodPart leg local t marks isReturned = (has self local (t .coreShards) ≡ false) × Marked local t marks isReturned
+GoodPart core local t marks isReturned = (has self local (t .coreShards) ≡ true) × Unmarked marks isReturned
+GoodPart remainder local t marks isReturned =
+    (has self local (t .coreShards) ≡ true) × (owes local t ≡ true) × Marked local t marks isReturned
 
 -- no record names the entry, or a shard's does
 abbrev pub isNaming : ℕ → Bool
@@ -72,7 +73,7 @@ pub record GoodEntry (local : ℕ) (e : Entry) : Type 0 where
   pub absenceCount : length (e .absences) ≤ maxAbsences
   pub absences : Every GoodAbsence (e .absences)
   pub absenceOrder : Ascending absenceKey (e .absences)
-  pub part : GoodPart (e .part) local e
+  pub part : GoodPart (e .part) local (e .terms) (e .marks) (e .returned)
 
 abbrev pub GoodStamp : Option ℕ → Type 0
 GoodStamp none = Unit {0}

@@ -15,7 +15,7 @@ pairKey p = p .key * 2 ^ 64 + p .transaction
 
 -- the pairs of one entry
 abbrev pub pairsOf : ℕ → Entry → List Pair
-pairsOf local e = map (λ (r : ℕ). record { key = r; transaction = transactionOf e }) (issued local e)
+pairsOf local e = map (λ (r : ℕ). record { key = r; transaction = transactionOf e }) (issued local (e .terms))
 
 abbrev pub indexOf : ℕ → List Entry → List Pair
 indexOf local [] = []
@@ -30,4 +30,4 @@ names l r t = any (λ p. eqb (p .key) r && eqb (p .transaction) t) l
 
 -- the transaction is owed and lists the record as issued
 abbrev pub listsRecord : Plain → ℕ → ℕ → Bool
-listsRecord p r t = any (λ e. eqb (transactionOf e) t && issues (p .local) r e) (p .entries)
+listsRecord p r t = any (λ e. eqb (transactionOf e) t && issues (p .local) r (e .terms)) (p .entries)

@@ -146,18 +146,18 @@ abbrev pub entryOf : ℕ → Plain → Option Entry
 entryOf t p = get transactionOf t (p .entries)
 
 -- the edges that start from local, in edge order; the keys of the records issued by them
-abbrev pub edgesFrom : ℕ → Entry → List Edge
-edgesFrom local e = keep (λ g. eqb (g .from) local) (e .terms .edges)
+abbrev pub edgesFrom : ℕ → Terms → List Edge
+edgesFrom local t = keep (λ g. eqb (g .from) local) (t .edges)
 
-abbrev pub issued : ℕ → Entry → List ℕ
-issued local e = map (λ (g : Edge). recordKey (g .id)) (edgesFrom local e)
+abbrev pub issued : ℕ → Terms → List ℕ
+issued local t = map (λ (g : Edge). recordKey (g .id)) (edgesFrom local t)
 
-abbrev pub issues : ℕ → ℕ → Entry → Bool
-issues local r e = has self r (issued local e)
+abbrev pub issues : ℕ → ℕ → Terms → Bool
+issues local r t = has self r (issued local t)
 
 -- an owed edge from local
-abbrev pub owes : ℕ → Entry → Bool
-owes local e = any (λ g. eqb (g .kind) 1) (edgesFrom local e)
+abbrev pub owes : ℕ → Terms → Bool
+owes local t = any (λ g. eqb (g .kind) 1) (edgesFrom local t)
 
 -- a record names the entry
 abbrev pub isNamed : Entry → Bool
@@ -168,5 +168,5 @@ abbrev pub isCovered : Entry → Bool
 isCovered e = isNamed e || filled (e .absences)
 
 -- a remote route is one that local does not own
-abbrev pub remote : ℕ → Entry → List ℕ
-remote local e = keep (λ r. not (owns local r)) (e .terms .routes)
+abbrev pub remote : ℕ → Terms → List ℕ
+remote local t = keep (λ r. not (owns local r)) (t .routes)

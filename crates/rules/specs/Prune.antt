@@ -65,7 +65,7 @@ ruleOf local e =
     cond (isCore (e .part) && ltb (e .certificate) 2) awaiting
     (cond (isSettling (e .part) || filled (e .absences)) settling
     (cond (isNamed e) recorded
-    (cond (ltb 0 (e .certificate) && filled (remote local e)) answering
+    (cond (ltb 0 (e .certificate) && filled (remote local (e .terms))) answering
     expiring)))
 
 -- whether an entry stands by a rule
@@ -73,7 +73,7 @@ abbrev pub standsBy : Rule → Plain → ℕ → Entry → Bool
 standsBy awaiting p now e = true
 standsBy settling p now e = ltb now (legHorizon p e)
 standsBy recorded p now e = any (readable now) (keep (isOfNaming e) (p .departures))
-standsBy answering p now e = any (λ r. answerable now (departureOver (p .departures) e r)) (remote (p .local) e)
+standsBy answering p now e = any (λ r. answerable now (departureOver (p .departures) e r)) (remote (p .local) (e .terms))
 standsBy expiring p now e = ltb now (validityHorizon p e)
 
 abbrev pub stands : Plain → ℕ → Entry → Bool
@@ -119,7 +119,7 @@ reports now p = map (reportOf (p .local)) (keep (λ e. isReported (ruleOf (p .lo
 
 -- the entry is named by the departure's shard, or the departure is over a remote route of it
 abbrev pub holds : ℕ → Departure → Entry → Bool
-holds local d e = isOfNaming e d || any (λ r. over e r d) (remote local e)
+holds local d e = isOfNaming e d || any (λ r. over e r d) (remote local (e .terms))
 
 -- a departure remains exactly if a surviving entry holds it
 abbrev pub remains : ℕ → List Entry → Departure → Bool

@@ -94,7 +94,7 @@ termWords e =
 -- Issuers of an id: those the index names under its key whose edges from local hold that very id.
 abbrev pub isIssuer : Plain → ℕ → Entry → Bool
 isIssuer p id e =
-    names (index p) (recordKey id) (transactionOf e) && any (λ g. eqb (g .id) id) (edgesFrom (p .local) e)
+    names (index p) (recordKey id) (transactionOf e) && any (λ g. eqb (g .id) id) (edgesFrom (p .local) (e .terms))
 
 unfoldable pub issuersOf : ℕ → Plain → List Entry
 issuersOf id p = keep (isIssuer p id) (p .entries)
@@ -105,7 +105,7 @@ issuerWords e = transactionWords (transactionOf e) ++ (e .terms .end ∷ [])
 -- Claimants: destinations of the entry's edges from local with that key, rising, each once.
 abbrev pub claimantsOf : ℕ → ℕ → Entry → List ℕ
 claimantsOf local r e =
-    setOf (concatMap (λ (g : Edge). g .to) (keep (λ g. eqb (recordKey (g .id)) r) (edgesFrom local e)))
+    setOf (concatMap (λ (g : Edge). g .to) (keep (λ g. eqb (recordKey (g .id)) r) (edgesFrom local (e .terms))))
 
 unfoldable pub claimants : ℕ → ℕ → Plain → List ℕ
 claimants t r p = listOf (claimantsOf (p .local) r) (entryOf t p)
@@ -114,7 +114,7 @@ claimants t r p = listOf (claimantsOf (p .local) r) (entryOf t p)
 abbrev pub counterpartsOf : Plain → ℕ → Entry → List ℕ
 counterpartsOf p d e =
     setOf
-    (concatMap (λ (r : ℕ). shardForRoute d r ∷ map shardOf (keep (over e r) (p .departures))) (remote (p .local) e))
+    (concatMap (λ (r : ℕ). shardForRoute d r ∷ map shardOf (keep (over e r) (p .departures))) (remote (p .local) (e .terms)))
 
 unfoldable pub counterparts : ℕ → ℕ → Plain → List ℕ
 counterparts t d p = listOf (counterpartsOf p d) (entryOf t p)
@@ -162,7 +162,7 @@ pub data Reading : Type 0 where
   issuedBy : (recordKey transaction : ℕ) → Reading
   local rebuilt : Reading
 
-abbrev question : ℕ → ℕ → ℕ → ℕ → ℕ → Question
+abbrev pub question : ℕ → ℕ → ℕ → ℕ → ℕ → Question
 question t shard key at end = record { transaction = t; shard = shard; key = key; at = at; end = end }
 
 abbrev pub read : Reading → Plain → Outcome
@@ -182,7 +182,7 @@ read (abandonment t) p = lookup abandonmentAnswers t p
 read (covered t) p = lookup isCovered t p
 read (departed t) p = lookup isNamed t p
 read (executed t) p = lookup isExecuted t p
-read (reachesBeyond t) p = lookup (λ e. filled (remote (p .local) e)) t p
+read (reachesBeyond t) p = lookup (λ e. filled (remote (p .local) (e .terms))) t p
 read (issuedBy r t) p = done (yesNo (names (index p) r t) ∷ []) p
 read local p = done (p .local ∷ []) p
 read rebuilt p = done (p .rebuilt ∷ []) p

@@ -4,7 +4,7 @@ use mathlib.Core.Bool.{Bool, true, false, cond, not, _&&_, _||_}
 use mathlib.Core.List.{List, [], _∷_, _++_}
 use lib.Dec.{eqb, ltb, leb}
 use lib.ListN.{length, getD, drop}
-use Rattle.lists.specs.Lists.{keep, all, ascending, total, zipBy, self, part, cut}
+use Rattle.lists.specs.Lists.{all, allOf, ascending, total, zipBy, self, part, cut}
 use Rattle.rules.specs.Numbers.{isTime, isShard, maxEntries, maxRoutes, maxCore, maxEdges, maxDestinations}
 use Rattle.rules.specs.Plain.{Edge, Terms}
 
@@ -25,63 +25,63 @@ transactionWords t = t ∷ []
 abbrev pub transactionsIn : List ℕ → List ℕ
 transactionsIn ws = ws
 
--- each size is within its limit, and the words are as many as the sizes require: `fixed` and the joined lists
-abbrev pub sized : ℕ → ℕ → List ℕ → List ℕ → Bool
-sized limit fixed sizes ws = all (λ n. leb n limit) sizes && eqb (length ws) (fixed + total self sizes)
+-- each size is within its limit
+abbrev pub within : ℕ → List ℕ → Bool
+within limit sizes = all (λ n. leb n limit) sizes
 
-abbrev edge : ℕ → ℕ → ℕ → List ℕ → Edge
+abbrev pub edge : ℕ → ℕ → ℕ → List ℕ → Edge
 edge id from kind to = record { id = id; from = from; kind = kind; to = to }
 
 -- one argument more
-abbrev with : {A B : Type 0} → (A → B) → A → B
+abbrev pub with : {A B : Type 0} → (A → B) → A → B
 with f x = f x
 
 -- Admission: r, c, e; transaction, at, end, anchor, charge, decomposed; r routes; c core shards;
 -- e ids, e from-shards, e kinds, e destination sizes; destinations joined.
 module _ (ws : List ℕ) where
-  abbrev routeCount : ℕ
+  abbrev pub routeCount : ℕ
   routeCount = word 0 ws
 
-  abbrev coreCount : ℕ
+  abbrev pub coreCount : ℕ
   coreCount = word 1 ws
 
-  abbrev edgeCount : ℕ
+  abbrev pub edgeCount : ℕ
   edgeCount = word 2 ws
 
-  abbrev figuresAt : ℕ
+  abbrev pub figuresAt : ℕ
   figuresAt = 3 + transactionSize
 
   abbrev pub decomposed : ℕ
   decomposed = word (figuresAt + 4) ws
 
-  abbrev routesAt : ℕ
+  abbrev pub routesAt : ℕ
   routesAt = figuresAt + 5
 
-  abbrev coreAt : ℕ
+  abbrev pub coreAt : ℕ
   coreAt = routesAt + routeCount
 
-  abbrev edgesAt : ℕ
+  abbrev pub edgesAt : ℕ
   edgesAt = coreAt + coreCount
 
-  abbrev destinationsAt : ℕ
+  abbrev pub destinationsAt : ℕ
   destinationsAt = edgesAt + 4 * edgeCount
 
   abbrev pub coreIn : List ℕ
   coreIn = part coreAt coreCount ws
 
-  abbrev froms : List ℕ
+  abbrev pub froms : List ℕ
   froms = part (edgesAt + edgeCount) edgeCount ws
 
-  abbrev kinds : List ℕ
+  abbrev pub kinds : List ℕ
   kinds = part (edgesAt + 2 * edgeCount) edgeCount ws
 
-  abbrev sizes : List ℕ
+  abbrev pub sizes : List ℕ
   sizes = part (edgesAt + 3 * edgeCount) edgeCount ws
 
-  abbrev destinations : List (List ℕ)
+  abbrev pub destinations : List (List ℕ)
   destinations = cut sizes (drop destinationsAt ws)
 
-  abbrev edgesIn : List Edge
+  abbrev pub edgesIn : List Edge
   edgesIn =
       zipBy with (zipBy with (zipBy edge (part edgesAt edgeCount ws) froms) kinds) destinations
 
@@ -99,43 +99,52 @@ module _ (ws : List ℕ) where
       }
 
   -- 5: the length, a size, an unknown code, a core or destination list that does not rise strictly
-  unfoldable pub admissionFormed : Bool
-  admissionFormed =
+  abbrev pub admissionTests : List Bool
+  admissionTests =
       leb routesAt (length ws)
-      && (leb routeCount maxRoutes && leb coreCount maxCore && leb edgeCount maxEdges)
-      && sized maxDestinations destinationsAt sizes ws
-      && (leb decomposed 1 && all (λ k. leb k 1) kinds)
-      && (ascending self coreIn && all (ascending self) destinations)
+      ∷ leb routeCount maxRoutes
+      ∷ leb coreCount maxCore
+      ∷ leb edgeCount maxEdges
+      ∷ within maxDestinations sizes
+      ∷ eqb (length ws) (destinationsAt + total self sizes)
+      ∷ leb decomposed 1
+      ∷ within 1 kinds
+      ∷ ascending self coreIn
+      ∷ all (ascending self) destinations
+      ∷ []
+
+  unfoldable pub admissionFormed : Bool
+  admissionFormed = allOf admissionTests
 
   -- 3: each time; 4: each shard
   unfoldable pub admissionTimed : Bool
-  admissionTimed = isTime (word figuresAt ws) && isTime (word (figuresAt + 1) ws) && isTime (word (figuresAt + 2) ws)
+  admissionTimed = allOf (isTime (word figuresAt ws) ∷ isTime (word (figuresAt + 1) ws) ∷ isTime (word (figuresAt + 2) ws) ∷ [])
 
   unfoldable pub admissionPlaced : Bool
-  admissionPlaced = all isShard coreIn && all isShard froms && all isShard (drop destinationsAt ws)
+  admissionPlaced = allOf (all isShard coreIn ∷ all isShard froms ∷ all isShard (drop destinationsAt ws) ∷ [])
 
 -- Abandonment record: n, shard; n reach sizes; n groups of transaction, at, end, anchor, charge; routes joined.
 module _ (ws : List ℕ) where
-  abbrev groupCount : ℕ
+  abbrev pub groupCount : ℕ
   groupCount = word 0 ws
 
   abbrev pub recordShard : ℕ
   recordShard = word 1 ws
 
-  abbrev reachSizes : List ℕ
+  abbrev pub reachSizes : List ℕ
   reachSizes = part 2 groupCount ws
 
-  abbrev groupSize : ℕ
+  abbrev pub groupSize : ℕ
   groupSize = transactionSize + 4
 
-  abbrev groupsAt : ℕ
+  abbrev pub groupsAt : ℕ
   groupsAt = 2 + groupCount
 
-  abbrev reachesAt : ℕ
+  abbrev pub reachesAt : ℕ
   reachesAt = groupsAt + groupSize * groupCount
 
 -- a group and its routes as an entry's terms
-abbrev groupTerms : List ℕ → List ℕ → Terms
+abbrev pub groupTerms : List ℕ → List ℕ → Terms
 groupTerms ws routes =
     record {
       transaction = transactionAt 0 ws;
@@ -149,18 +158,26 @@ groupTerms ws routes =
     }
 
 -- a group for each reach, the first at a place
-abbrev groupsFrom : ℕ → List (List ℕ) → List ℕ → List Terms
+abbrev pub groupsFrom : ℕ → List (List ℕ) → List ℕ → List Terms
 groupsFrom i [] ws = []
 groupsFrom i (routes ∷ more) ws = groupTerms (drop i ws) routes ∷ groupsFrom (i + (transactionSize + 4)) more ws
 
 unfoldable pub recordGroups : List ℕ → List Terms
 recordGroups ws = groupsFrom (groupsAt ws) (cut (reachSizes ws) (drop (reachesAt ws) ws)) ws
 
-unfoldable pub recordFormed : List ℕ → Bool
-recordFormed ws = leb 2 (length ws) && leb (groupCount ws) maxEntries && sized maxRoutes (reachesAt ws) (reachSizes ws) ws
+abbrev pub recordTests : List ℕ → List Bool
+recordTests ws =
+    leb 2 (length ws)
+    ∷ leb (groupCount ws) maxEntries
+    ∷ within maxRoutes (reachSizes ws)
+    ∷ eqb (length ws) (reachesAt ws + total self (reachSizes ws))
+    ∷ []
 
-abbrev timed : Terms → Bool
-timed t = isTime (t .at) && isTime (t .end) && isTime (t .anchor)
+unfoldable pub recordFormed : List ℕ → Bool
+recordFormed ws = allOf (recordTests ws)
+
+abbrev pub timed : Terms → Bool
+timed t = allOf (isTime (t .at) ∷ isTime (t .end) ∷ isTime (t .anchor) ∷ [])
 
 unfoldable pub recordTimed : List ℕ → Bool
 unfolding recordGroups
@@ -172,19 +189,19 @@ pub record Line : Type 0 where
   pub decision : ℕ
 
 module _ (ws : List ℕ) where
-  abbrev lineCount : ℕ
+  abbrev pub lineCount : ℕ
   lineCount = word 0 ws
 
-  abbrev decidingCount : ℕ
+  abbrev pub decidingCount : ℕ
   decidingCount = word 1 ws
 
-  abbrev decisionsAt : ℕ
+  abbrev pub decisionsAt : ℕ
   decisionsAt = 2 + transactionSize * lineCount
 
-  abbrev decidingAt : ℕ
+  abbrev pub decidingAt : ℕ
   decidingAt = decisionsAt + lineCount
 
-  abbrev decisions : List ℕ
+  abbrev pub decisions : List ℕ
   decisions = part decisionsAt lineCount ws
 
   unfoldable pub finalizationLines : List Line
@@ -196,9 +213,14 @@ module _ (ws : List ℕ) where
   unfoldable pub deciding : List ℕ
   deciding = transactionsIn (part decidingAt (transactionSize * decidingCount) ws)
 
-  unfoldable pub finalizationFormed : Bool
-  finalizationFormed =
+  abbrev pub finalizationTests : List Bool
+  finalizationTests =
       leb 2 (length ws)
-      && (leb lineCount maxEntries && leb decidingCount maxEntries)
-      && eqb (length ws) (decidingAt + transactionSize * decidingCount)
-      && all (λ d. leb 1 d && leb d 3) decisions
+      ∷ leb lineCount maxEntries
+      ∷ leb decidingCount maxEntries
+      ∷ eqb (length ws) (decidingAt + transactionSize * decidingCount)
+      ∷ all (λ d. leb 1 d && leb d 3) decisions
+      ∷ []
+
+  unfoldable pub finalizationFormed : Bool
+  finalizationFormed = allOf finalizationTests
