@@ -155,3 +155,13 @@ module _ {A : Type 0} (key : A → ℕ) where
   ascending-test [] h = tt
   ascending-test (x ∷ l) h =
       (above-test (key x) l (and-left (aboveAll key (key x) l) (ascending key l) h), ascending-test l (and-right (aboveAll key (key x) l) (ascending key l) h))
+
+-- a function that keeps the keys keeps the order
+module _ {A B : Type 0} (key : A → ℕ) (keyB : B → ℕ) (f : A → B) (c : (x : A) → keyB (f x) ≡ key x) where
+  pub above-map : (k : ℕ) (l : List A) → Above key k l → Above keyB k (map f l)
+  above-map k [] a = tt
+  above-map k (x ∷ l) a = (rw (c x) (a .0), above-map k l (a .1))
+
+  pub ascending-map : (l : List A) → Ascending key l → Ascending keyB (map f l)
+  ascending-map [] a = tt
+  ascending-map (x ∷ l) a = (rw (c x) (above-map (key x) l (a .0)), ascending-map l (a .1))
