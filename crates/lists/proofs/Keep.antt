@@ -7,7 +7,7 @@ use mathlib.Core.List.{List, [], _∷_, _++_, map, append-assoc, List·Memᴰ, L
 use native.Mathlib.Omega.{arith}
 use lib.ListN.{length, length-append}
 use Rattle.lists.specs.Lists.{consIf, keep, any, all, filled, changeIf, Every, concatMap}
-use Rattle.lists.proofs.Tests.{or-left, or-right, or-assoc, and-left, and-right}
+use Rattle.lists.proofs.Tests.{or-left, or-right, or-assoc, or-false, or-same, and-left, and-right}
 
 module _ {A : Type 0} where
   -- a test that implies another sees nothing of what the other leaves out
@@ -54,6 +54,16 @@ module _ {A : Type 0} where
   any-append p [] b = refl
   any-append p (x ∷ a) b = rw (any-append p a b) (sym (or-assoc (p x) (any p a) (any p b)))
 
+  -- a test joined with a fixed one
+  pub any-and : (p : A → Bool) (b : Bool) (l : List A) → any (λ x. p x && b) l ≡ any p l && b
+  any-and p b [] = refl
+  any-and p b (x ∷ l) = rw (any-and p b l) (go (p x) (any p l))
+    where
+      go : (a c : Bool) → a && b || c && b ≡ (a || c) && b
+      go true true = or-same b
+      go true false = or-false b
+      go false c = refl
+
   -- what falls first, and what falls of the rest, are as many as fall in the end
   pub keep-count : (p q : A → Bool) → ((x : A) → q x ≡ true → p x ≡ true) → (l : List A) →
       length (keep (λ x. not (p x)) l) + length (keep (λ x. not (q x)) (keep p l)) ≡ length (keep (λ x. not (q x)) l)
@@ -89,6 +99,10 @@ module _ {A : Type 0} where
       go ih true = (v .0, ih)
       go ih false = ih
 
+  pub every-always : (P : A → Type 0) → ((x : A) → P x) → (l : List A) → Every P l
+  every-always P h [] = tt
+  every-always P h (x ∷ l) = (h x, every-always P h l)
+
   pub every-more : (P Q : A → Type 0) → ((x : A) → P x → Q x) → (l : List A) → Every P l → Every Q l
   every-more P Q imp [] v = tt
   every-more P Q imp (x ∷ l) v = (imp x (v .0), every-more P Q imp l (v .1))
@@ -116,3 +130,13 @@ module _ {A : Type 0} where
 pub concatMap-append : {A B : Type 0} (f : A → List B) (a b : List A) → concatMap f (a ++ b) ≡ concatMap f a ++ concatMap f b
 concatMap-append f [] b = refl
 concatMap-append f (x ∷ a) b = rw (concatMap-append f a b, append-assoc)
+
+-- what f makes of each
+module _ {A B : Type 0} (f : A → B) where
+  pub any-map : (p : B → Bool) (l : List A) → any p (map f l) ≡ any (λ x. p (f x)) l
+  any-map p [] = refl
+  any-map p (x ∷ l) = rw (any-map p l)
+
+  pub every-map : (P : B → Type 0) (l : List A) → Every (λ x. P (f x)) l → Every P (map f l)
+  every-map P [] v = tt
+  every-map P (x ∷ l) v = (v .0, every-map P l (v .1))
