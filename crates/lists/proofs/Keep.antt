@@ -20,6 +20,14 @@ module _ {A : Type 0} where
       go ih false true e f = absurd (false≢true (sym e ∙ imp x f))
       go ih false false e f = simp (e, f, ih)
 
+  pub keep-always : (p : A → Bool) (l : List A) → Every (λ x. p x ≡ true) l → keep p l ≡ l
+  keep-always p [] v = refl
+  keep-always p (x ∷ l) v = rw (v .0, keep-always p l (v .1))
+
+  pub keep-never : (p : A → Bool) (l : List A) → Every (λ x. p x ≡ false) l → keep p l ≡ []
+  keep-never p [] v = refl
+  keep-never p (x ∷ l) v = rw (v .0) (keep-never p l (v .1))
+
   -- tests that agree on the members keep the same and find the same
   pub keep-same : (p q : A → Bool) (l : List A) → ((x : A) → List·Memᴰ x l → p x ≡ q x) → keep p l ≡ keep q l
   keep-same p q [] h = refl

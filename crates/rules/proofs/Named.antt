@@ -1,20 +1,20 @@
 -- The issuer index: it names a transaction under a record exactly when the transaction is owed and lists the record as issued;
 -- each pair stands once, and they are never more than there is room for.
 -- Assumes nothing.
-use Prim.Native.Nat.{ℕ, suc, _+_, _*_, _^_, _≤_, _<_}
-use mathlib.Core.Path.{_≡_, refl, sym, ap, _∙_}
-use mathlib.Core.Bool.{Bool, true, false, _&&_, _||_}
-use mathlib.Core.List.{List, [], _∷_, map}
+use Prim.Native.Nat.{ℕ, _*_, _^_, _≤_}
+use mathlib.Core.Path.{_≡_, refl, _∙_}
+use mathlib.Core.Bool.{Bool, true, _&&_}
+use mathlib.Core.List.{List, [], _∷_}
 use native.Mathlib.Omega.{arith}
-use lib.Dec.{eqb, ltb}
+use lib.Dec.{eqb}
 use lib.ListN.{length, length-map}
 use borrow.Author.Tests.{ltb-true}
-use Rattle.lists.specs.Lists.{keep, any, at, Every, Ascending, includeAll}
+use Rattle.lists.specs.Lists.{any, at, Every, Ascending}
 use Rattle.lists.proofs.Tests.{and-left, and-swap}
 use Rattle.lists.proofs.Keep.{any-map, any-and, any-more, every-always, every-map, every-more, length-keep}
 use Rattle.lists.proofs.Order.{ascending-includeAll, every-includeAll, length-includeAll, any-includeAll}
 use Rattle.rules.specs.Numbers.{isWord, maxEdges, maxPairs}
-use Rattle.rules.specs.Plain.{Edge, Entry, Plain, transactionOf, issued, issues, edgesFrom, owed}
+use Rattle.rules.specs.Plain.{Entry, Plain, transactionOf, issued, issues, owed}
 use Rattle.rules.specs.Index.{Pair, pairKey, pairsOf, indexOf, index, names, listsRecord}
 use Rattle.rules.specs.Good.{Good, GoodEntry}
 
@@ -43,13 +43,18 @@ same-pair x y v w h = λ i. record { key = k i; transaction = t i }
     t : x .transaction ≡ y .transaction
     t = omega (arith, k)
 
+-- what holds of an entry's transaction holds of its pairs
+pub pairsOf-every : (P : ℕ → Type 0) (local : ℕ) (e : Entry) → P (transactionOf e) → Every (λ q. P (q .transaction)) (pairsOf local e)
+pairsOf-every P local e v = every-map _ (λ q. P (q .transaction)) (issued local e) (every-always _ (λ r. v) (issued local e))
+
 pub pairsOf-words : (local : ℕ) (e : Entry) → IsOfWord e → Every IsPairOfWord (pairsOf local e)
-pairsOf-words local e v = every-map _ IsPairOfWord (issued local e) (every-always _ (λ r. v) (issued local e))
+pairsOf-words = pairsOf-every (λ t. isWord t ≡ true)
 
 pub indexOf-words : (local : ℕ) (es : List Entry) → Every IsOfWord es → Every IsPairOfWord (indexOf local es)
 indexOf-words local [] v = tt
 indexOf-words local (e ∷ es) v =
-    every-includeAll pairKey IsPairOfWord (pairsOf local e) (indexOf local es) (pairsOf-words local e (v .0)) (indexOf-words local es (v .1))
+    every-includeAll pairKey IsPairOfWord (pairsOf local e) (indexOf local es)
+    (pairsOf-words local e (v .0)) (indexOf-words local es (v .1))
 
 pub good-words : {p : Plain} → Good p → Every IsOfWord (p .entries)
 good-words {p} g = every-more (GoodEntry (p .local)) IsOfWord (λ e v. v .terms .transaction) (p .entries) (g .entries)
@@ -68,7 +73,8 @@ pub indexOf-names : (local : ℕ) (es : List Entry) → Every IsOfWord es → (r
     names (indexOf local es) r t ≡ any (λ e. eqb (transactionOf e) t && issues local r e) es
 indexOf-names local [] v r t = refl
 indexOf-names local (e ∷ es) v r t =
-    any-includeAll pairKey IsPairOfWord same-pair (isNamedBy r t) (pairsOf local e) (indexOf local es) (pairsOf-words local e (v .0)) (indexOf-words local es (v .1))
+    any-includeAll pairKey IsPairOfWord same-pair (isNamedBy r t) (pairsOf local e) (indexOf local es)
+    (pairsOf-words local e (v .0)) (indexOf-words local es (v .1))
     ∙ rw (pairsOf-names local r t e, indexOf-names local es (v .1) r t)
 
 pub index-names : (p : Plain) → Good p → (r t : ℕ) → names (index p) r t ≡ listsRecord p r t
@@ -85,11 +91,12 @@ indexOf-size : (local : ℕ) (es : List Entry) → Every (λ e. length (e .terms
     length (indexOf local es) ≤ maxEdges * length es
 indexOf-size local [] v = omega arith
 indexOf-size local (e ∷ es) v =
-    omega
-    (arith,
-    indexOf-size local es (v .1),
-    length-includeAll pairKey (pairsOf local e) (indexOf local es),
-    length-pairsOf)
+    omega (
+      arith,
+      indexOf-size local es (v .1),
+      length-includeAll pairKey (pairsOf local e) (indexOf local es),
+      length-pairsOf,
+    )
   where
     length-pairsOf : length (pairsOf local e) ≤ length (e .terms .edges)
     length-pairsOf = rw (length-map, length-map) (length-keep (λ g. eqb (g .from) local) (e .terms .edges))
@@ -97,4 +104,8 @@ indexOf-size local (e ∷ es) v =
 pub index-size : (p : Plain) → Good p → length (index p) ≤ maxPairs
 unfolding index
 index-size p g =
-    omega (arith, indexOf-size (p .local) (p .entries) (every-more (GoodEntry (p .local)) _ (λ e v. v .terms .edgeCount) (p .entries) (g .entries)))
+    omega (
+      arith,
+      indexOf-size (p .local) (p .entries)
+          (every-more (GoodEntry (p .local)) _ (λ e v. v .terms .edgeCount) (p .entries) (g .entries)),
+    )

@@ -1,8 +1,8 @@
 -- Paper, 'Departures, then prune': prunes at clocks that never fall, one after the other, are one prune at the last clock.
 -- Assumes nothing.
-use Prim.Native.Nat.{ℕ, suc, _+_, _≤_, _<_}
+use Prim.Native.Nat.{ℕ, suc, _+_, _≤_}
 use mathlib.Core.Path.{_≡_, refl, sym, ap, _∙_}
-use mathlib.Core.Bool.{Bool, true, false, cond, not, _||_, false≢true}
+use mathlib.Core.Bool.{Bool, true, false, cond, not, false≢true}
 use mathlib.Core.List.{List, [], _∷_, _++_, map, append-nil, List·Memᴰ}
 use mathlib.Core.Option.{Option, none, some}
 use native.Mathlib.Omega.{arith}
@@ -14,7 +14,7 @@ use Rattle.lists.proofs.Tests.{or-left, or-right}
 use Rattle.lists.proofs.Keep.{keep-keep, keep-same, any-same, any-has, any-more, any-keep, keep-count}
 use Rattle.lists.proofs.Order.{above-keep, ascending-keep, above-map, ascending-map}
 use Rattle.rules.specs.Plain.{Entry, Departure, Plain, transactionOf, remote}
-use Rattle.rules.specs.Prune.{readableUntil, readable, over, isOfNaming, counting, departureOver, answerable, legHorizon, validityHorizon, Rule, awaiting, settling, recorded, answering, expiring, ruleOf, standsBy, stands, isReported, Report, reportOf, survivors, fallen, reports, holds, remains, pruned, prunes, allReports, allFallen, insert, insertAll, inOrder, Steady, lastOf, AsOnce}
+use Rattle.rules.specs.Prune.{readableUntil, readable, over, isOfNaming, counting, departureOver, answerable, legHorizon, validityHorizon, Rule, awaiting, settling, recorded, answering, expiring, ruleOf, standsBy, stands, isReported, Report, reportOf, survivors, fallen, reports, holds, remains, pruned, allReports, insert, insertAll, inOrder, Steady, lastOf, AsOnce}
 
 -- Every rule that lets an entry stand lets it stand at each earlier clock.
 module _ {t u : ℕ} (h : t ≤ u) where
@@ -180,7 +180,7 @@ as-once t (u ∷ us) s p a =
     let ih : AsOnce u us (pruned t p) = as-once u us (s .1) (pruned t p) (ascending-keep transactionOf (stands p t) (p .entries) a) in
     let h : t ≤ lastOf u us = last-after t (u ∷ us) s in
     let told : inOrder (allReports (t ∷ u ∷ us) p) ≡ reports (lastOf u us) p =
-      insertAll-append (reports t p) (allReports (u ∷ us) (pruned t p)) [] ∙ ap (insertAll (reports t p)) (ih .told) ∙ reports-again h p a in
+    insertAll-append (reports t p) (allReports (u ∷ us) (pruned t p)) [] ∙ ap (insertAll (reports t p)) (ih .told) ∙ reports-again h p a in
     record {
       left = ih .left ∙ pruned-again h p;
       told = told;
