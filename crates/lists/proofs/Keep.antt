@@ -7,7 +7,7 @@ use mathlib.Core.List.{List, [], _∷_, _++_, map, append-assoc, List·Memᴰ, L
 use native.Mathlib.Omega.{arith}
 use lib.ListN.{length, length-append}
 use Rattle.lists.specs.Lists.{consIf, keep, any, all, filled, changeIf, Every, allOf, concatMap}
-use Rattle.lists.proofs.Tests.{or-left, or-right, or-assoc, and-left, and-right}
+use Rattle.lists.proofs.Tests.{or-left, or-right, or-assoc, or-false, or-same, and-left, and-right}
 
 module _ {A : Type 0} where
   -- a test that implies another sees nothing of what the other leaves out
@@ -19,6 +19,14 @@ module _ {A : Type 0} where
       go ih true b e f = simp (e, ih)
       go ih false true e f = absurd (false≢true (sym e ∙ imp x f))
       go ih false false e f = simp (e, f, ih)
+
+  pub keep-always : (p : A → Bool) (l : List A) → Every (λ x. p x ≡ true) l → keep p l ≡ l
+  keep-always p [] v = refl
+  keep-always p (x ∷ l) v = rw (v .0, keep-always p l (v .1))
+
+  pub keep-never : (p : A → Bool) (l : List A) → Every (λ x. p x ≡ false) l → keep p l ≡ []
+  keep-never p [] v = refl
+  keep-never p (x ∷ l) v = rw (v .0) (keep-never p l (v .1))
 
   -- tests that agree on the members keep the same and find the same
   pub keep-same : (p q : A → Bool) (l : List A) → ((x : A) → List·Memᴰ x l → p x ≡ q x) → keep p l ≡ keep q l
@@ -53,6 +61,16 @@ module _ {A : Type 0} where
   pub any-append : (p : A → Bool) (a b : List A) → any p (a ++ b) ≡ any p a || any p b
   any-append p [] b = refl
   any-append p (x ∷ a) b = rw (any-append p a b) (sym (or-assoc (p x) (any p a) (any p b)))
+
+  -- a test joined with a fixed one
+  pub any-and : (p : A → Bool) (b : Bool) (l : List A) → any (λ x. p x && b) l ≡ any p l && b
+  any-and p b [] = refl
+  any-and p b (x ∷ l) = rw (any-and p b l) (go (p x) (any p l))
+    where
+      go : (a c : Bool) → a && b || c && b ≡ (a || c) && b
+      go true true = or-same b
+      go true false = or-false b
+      go false c = refl
 
   -- what falls first, and what falls of the rest, are as many as fall in the end
   pub keep-count : (p q : A → Bool) → ((x : A) → q x ≡ true → p x ≡ true) → (l : List A) →
@@ -89,6 +107,10 @@ module _ {A : Type 0} where
       go ih true = (v .0, ih)
       go ih false = ih
 
+  pub every-always : (P : A → Type 0) → ((x : A) → P x) → (l : List A) → Every P l
+  every-always P h [] = tt
+  every-always P h (x ∷ l) = (h x, every-always P h l)
+
   pub every-more : (P Q : A → Type 0) → ((x : A) → P x → Q x) → (l : List A) → Every P l → Every Q l
   every-more P Q imp [] v = tt
   every-more P Q imp (x ∷ l) v = (imp x (v .0), every-more P Q imp l (v .1))
@@ -124,3 +146,13 @@ each-of (b ∷ l) h = (and-left b (allOf l) h, each-of l (and-right b (allOf l) 
 pub concatMap-append : {A B : Type 0} (f : A → List B) (a b : List A) → concatMap f (a ++ b) ≡ concatMap f a ++ concatMap f b
 concatMap-append f [] b = refl
 concatMap-append f (x ∷ a) b = rw (concatMap-append f a b, append-assoc)
+
+-- what f makes of each
+module _ {A B : Type 0} (f : A → B) where
+  pub any-map : (p : B → Bool) (l : List A) → any p (map f l) ≡ any (λ x. p (f x)) l
+  any-map p [] = refl
+  any-map p (x ∷ l) = rw (any-map p l)
+
+  pub every-map : (P : B → Type 0) (l : List A) → Every (λ x. P (f x)) l → Every P (map f l)
+  every-map P [] v = tt
+  every-map P (x ∷ l) v = (v .0, every-map P l (v .1))

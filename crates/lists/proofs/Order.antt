@@ -10,12 +10,26 @@ use borrow.Author.Tests.{ltb-true, ltb-false, eqb-true, eqb-false, eq-eqb, ne-eq
 use lib.Dec.{eqb, ltb}
 use lib.ListN.{length}
 use Rattle.lists.specs.Lists.{consIf, keep, any, find, changeIf, Every, at, has, get, without, change, include, includeAll, Above, Ascending, aboveAll, ascending}
-use Rattle.lists.proofs.Tests.{or-false, and-left, and-right}
+use Rattle.lists.proofs.Tests.{or-false, or-assoc, and-left, and-right}
+use Rattle.lists.proofs.Keep.{keep-same, every-more}
+
+-- two numbers: the lower first, equal, or the higher first
+pub by-order : {P : Type 0} (m n : ℕ) → (m < n → P) → (m ≡ n → P) → (n < m → P) → P
+by-order {P} m n f g h = go (ltb m n) refl (eqb m n) refl
+  where
+    go : (b : Bool) → ltb m n ≡ b → (c : Bool) → eqb m n ≡ c → P
+    go true t c u = f (ltb-true m n t)
+    go false t true u = g (eqb-true m n u)
+    go false t false u = h (omega (arith, ltb-false m n t, eqb-false m n u))
 
 module _ {A : Type 0} (key : A → ℕ) where
   pub above-weak : (j k : ℕ) (l : List A) → j ≤ k → Above key k l → Above key j l
   above-weak j k [] h a = tt
   above-weak j k (x ∷ l) h a = (omega (arith, a .0), above-weak j k l h (a .1))
+
+  pub above-member : (k : ℕ) {x : A} (l : List A) → Above key k l → List·Memᴰ x l → k < key x
+  above-member k (y ∷ l) a (List·Memᴰ·head e) = rw e (a .0)
+  above-member k (y ∷ l) a (List·Memᴰ·tail m) = above-member k l (a .1) m
 
   pub above-keep : (p : A → Bool) (k : ℕ) (l : List A) → Above key k l → Above key k (keep p l)
   above-keep p k [] a = tt
@@ -155,3 +169,133 @@ module _ {A : Type 0} (key : A → ℕ) where
   ascending-test [] h = tt
   ascending-test (x ∷ l) h =
       (above-test (key x) l (and-left (aboveAll key (key x) l) (ascending key l) h), ascending-test l (and-right (aboveAll key (key x) l) (ascending key l) h))
+
+-- a function that keeps the keys keeps the order
+module _ {A B : Type 0} (key : A → ℕ) (keyB : B → ℕ) (f : A → B) (c : (x : A) → keyB (f x) ≡ key x) where
+  pub above-map : (k : ℕ) (l : List A) → Above key k l → Above keyB k (map f l)
+  above-map k [] a = tt
+  above-map k (x ∷ l) a = (rw (c x) (a .0), above-map k l (a .1))
+
+  pub ascending-map : (l : List A) → Ascending key l → Ascending keyB (map f l)
+  ascending-map [] a = tt
+  ascending-map (x ∷ l) a = (rw (c x) (above-map (key x) l (a .0)), ascending-map l (a .1))
+
+-- where an element comes to stand, and that the order of putting in does not matter
+module _ {A : Type 0} (key : A → ℕ) where
+  pub include-below : (e : A) (l : List A) → Above key (key e) l → include key e l ≡ e ∷ l
+  include-below e [] a = refl
+  include-below e (x ∷ l) a = rw (lt-ltb (key e) (key x) (a .0))
+
+  pub include-past : (e x : A) (l : List A) → key x < key e → include key e (x ∷ l) ≡ x ∷ include key e l
+  include-past e x l h = rw (le-ltb (key e) (key x) (omega arith), ne-eqb (key e) (key x) (omega arith))
+
+  include-met : (e x : A) (l : List A) → key e ≡ key x → include key e (x ∷ l) ≡ x ∷ l
+  include-met e x l h = rw (le-ltb (key e) (key x) (omega arith), eq-eqb (key e) (key x) h)
+
+  -- the lower of two put in first or last
+  swap-front : (a b : A) (l : List A) → key a < key b → Above key (key a) l →
+      include key a (include key b l) ≡ include key b (include key a l)
+  swap-front a b l h u =
+      rw (include-below a (include key b l) (above-include key b (key a) l h u), include-below a l u) (sym (include-past b a l h))
+
+  swap-below : (a b : A) (l : List A) → key a < key b → Ascending key l →
+      include key a (include key b l) ≡ include key b (include key a l)
+  swap-below a b [] h s = swap-front a b [] h tt
+  swap-below a b (x ∷ l) h s =
+      by-order (key a) (key x)
+      (λ lt. swap-front a b (x ∷ l) h (lt, above-weak key (key a) (key x) l (omega arith) (s .0)))
+      (λ eq. rw (include-met a x l eq, include-past b x l (omega arith)) (include-met a x (include key b l) eq))
+      (λ gt. rw (include-past b x l (omega arith), include-past a x l gt)
+      (rw (include-past a x (include key b l) gt, include-past b x (include key a l) (omega arith))
+      (ap (λ m. x ∷ m) (swap-below a b l h (s .1)))))
+
+  pub include-swap : (a b : A) (l : List A) → (key a ≡ key b → a ≡ b) → Ascending key l →
+      include key a (include key b l) ≡ include key b (include key a l)
+  include-swap a b l c s =
+      by-order (key a) (key b)
+      (λ lt. swap-below a b l lt s)
+      (λ eq. rw (c eq))
+      (λ gt. sym (swap-below b a l gt s))
+
+  pub include-includeAll : (a : A) (bs l : List A) → Every (λ b. key a ≡ key b → a ≡ b) bs → Ascending key l →
+      include key a (includeAll key bs l) ≡ includeAll key bs (include key a l)
+  include-includeAll a [] l v s = refl
+  include-includeAll a (b ∷ bs) l v s =
+      include-swap a b (includeAll key bs l) (v .0) (ascending-includeAll key bs l s)
+      ∙ ap (include key b) (include-includeAll a bs l (v .1) s)
+
+  -- a test that says the same of elements with one key keeps the new element or not, beside what it kept before
+  keep-front : (p : A → Bool) (e : A) (l : List A) → Above key (key e) l →
+      keep p (include key e l) ≡ cond (p e) (include key e (keep p l)) (keep p l)
+  keep-front p e l u = rw (include-below e l u, include-below e (keep p l) (above-keep key p (key e) l u)) (go (p e))
+    where
+      go : (b : Bool) → consIf b e (keep p l) ≡ cond b (e ∷ keep p l) (keep p l)
+      go true = refl
+      go false = refl
+
+  pub keep-include : (p : A → Bool) (e : A) (l : List A) → Every (λ x. key x ≡ key e → p x ≡ p e) l → Ascending key l →
+      keep p (include key e l) ≡ cond (p e) (include key e (keep p l)) (keep p l)
+  keep-include p e [] v s = keep-front p e [] tt
+  keep-include p e (x ∷ l) v s =
+      by-order (key e) (key x)
+      (λ lt. keep-front p e (x ∷ l) (lt, above-weak key (key e) (key x) l (omega arith) (s .0)))
+      (λ eq. rw (include-met e x l eq, v .0 (sym eq)) (met eq (p e)))
+      (λ gt. rw (include-past e x l gt) (ap (consIf (p x) x) (keep-include p e l (v .1) (s .1)) ∙ past gt (p e) (p x)))
+    where
+      met : key e ≡ key x → (b : Bool) → consIf b x (keep p l) ≡ cond b (include key e (consIf b x (keep p l))) (consIf b x (keep p l))
+      met eq true = sym (include-met e x (keep p l) eq)
+      met eq false = refl
+
+      past : key x < key e → (b c : Bool) →
+          consIf c x (cond b (include key e (keep p l)) (keep p l)) ≡ cond b (include key e (consIf c x (keep p l))) (consIf c x (keep p l))
+      past gt true true = sym (include-past e x (keep p l) gt)
+      past gt true false = refl
+      past gt false c = refl
+
+  -- of rising keys a test keeps those whose key is among the kept
+  pub keep-by-key : (p : A → Bool) (l : List A) → Ascending key l → keep (λ x. has key (key x) (keep p l)) l ≡ keep p l
+  keep-by-key p [] s = refl
+  keep-by-key p (x ∷ l) s = go (p x) (keep-by-key p l (s .1))
+    where
+      later : (y : A) → List·Memᴰ y l → has key (key y) (x ∷ keep p l) ≡ has key (key y) (keep p l)
+      later y m = rw (ne-eqb (key x) (key y) (omega (arith, above-member key (key x) l (s .0) m)))
+
+      go : (b : Bool) → keep (λ y. has key (key y) (keep p l)) l ≡ keep p l →
+          keep (λ y. has key (key y) (consIf b x (keep p l))) (x ∷ l) ≡ consIf b x (keep p l)
+      go true ih =
+          rw (eq-eqb (key x) (key x) refl)
+          (ap (λ m. x ∷ m) (keep-same _ (λ y. has key (key y) (keep p l)) l later ∙ ih))
+      go false ih = rw (above-lacks key (key x) (key x) (keep p l) (omega arith) (above-keep key p (key x) l (s .0))) ih
+
+  -- Where a key tells the elements apart.
+  module _ (P : A → Type 0) (apart : (x y : A) → P x → P y → key x ≡ key y → x ≡ y) where
+    agree : (p : A → Bool) (e : A) (l : List A) → P e → Every P l → Every (λ x. key x ≡ key e → p x ≡ p e) l
+    agree p e l q v = every-more P (λ x. key x ≡ key e → p x ≡ p e) (λ x u eq. ap p (apart x e u q eq)) l v
+
+    pub any-includeAll : (p : A → Bool) (es l : List A) → Every P es → Every P l → any p (includeAll key es l) ≡ any p es || any p l
+    any-includeAll p [] l w v = refl
+    any-includeAll p (e ∷ es) l w v =
+        any-include key p e (includeAll key es l) (agree p e (includeAll key es l) (w .0) (every-includeAll key P es l (w .1) v))
+        ∙ ap (λ b. p e || b) (any-includeAll p es l (w .1) v)
+        ∙ sym (or-assoc (p e) (any p es) (any p l))
+
+    pub keep-includeAll : (p : A → Bool) (es l : List A) → Every P es → Every P l → Ascending key l →
+        keep p (includeAll key es l) ≡ includeAll key (keep p es) (keep p l)
+    keep-includeAll p [] l w v s = refl
+    keep-includeAll p (e ∷ es) l w v s =
+        keep-include p e (includeAll key es l)
+        (agree p e (includeAll key es l) (w .0) (every-includeAll key P es l (w .1) v)) (ascending-includeAll key es l s)
+        ∙ rw (keep-includeAll p es l (w .1) v s) (go (p e))
+      where
+        go : (b : Bool) →
+            cond b (include key e (includeAll key (keep p es) (keep p l))) (includeAll key (keep p es) (keep p l)) ≡ includeAll key (consIf b e (keep p es)) (keep p l)
+        go true = refl
+        go false = refl
+
+    pub includeAll-swap : (es fs l : List A) → Every P es → Every P fs → Ascending key l →
+        includeAll key es (includeAll key fs l) ≡ includeAll key fs (includeAll key es l)
+    includeAll-swap [] fs l v w s = refl
+    includeAll-swap (e ∷ es) fs l v w s =
+        ap (include key e) (includeAll-swap es fs l (v .1) w s)
+        ∙ include-includeAll e fs (includeAll key es l)
+        (every-more P (λ x. key e ≡ key x → e ≡ x) (λ x u. apart e x (v .0) u) fs w) (ascending-includeAll key es l s)

@@ -19,6 +19,10 @@ pub or-false : (a : Bool) → a || false ≡ a
 or-false true = refl
 or-false false = refl
 
+pub or-same : (a : Bool) → a || a ≡ a
+or-same true = refl
+or-same false = refl
+
 pub and-true : (a : Bool) → a && true ≡ a
 and-true true = refl
 and-true false = refl
@@ -37,6 +41,10 @@ and-right false b h = absurd (false≢true h)
 
 pub and-both : (a b : Bool) → a ≡ true → b ≡ true → a && b ≡ true
 and-both a b h k = rw (h, k)
+
+pub and-swap : (a b : Bool) → a && b ≡ b && a
+and-swap true b = sym (and-true b)
+and-swap false b = sym (and-false b)
 
 -- two tests that imply each other are one
 pub same-test : (a b : Bool) → (a ≡ true → b ≡ true) → (b ≡ true → a ≡ true) → a ≡ b
