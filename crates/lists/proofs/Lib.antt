@@ -3,3 +3,4 @@ pub mod Keep
 pub mod Order
 pub mod Change
 pub mod Parts
+pub mod Loops
