@@ -18,6 +18,12 @@ module _ {A : Type 0} where
   keep p [] = []
   keep p (x ∷ l) = consIf (p x) x (keep p l)
 
+  -- the elements whose flag is up, as long as there are flags
+  abbrev pub keepBy : List Bool → List A → List A
+  keepBy [] l = []
+  keepBy (b ∷ bs) [] = []
+  keepBy (b ∷ bs) (x ∷ l) = consIf b x (keepBy bs l)
+
   -- whether some element passes
   abbrev pub any : (A → Bool) → List A → Bool
   any p [] = false
