@@ -4,3 +4,6 @@ pub mod Order
 pub mod Change
 pub mod Parts
 pub mod Loops
+pub mod Distinct
+pub mod Maps
+pub mod Pairs

@@ -1,0 +1,5 @@
+pub mod Rosters
+pub mod Pairs
+pub mod Filed
+pub mod Typed
+pub mod Keyed

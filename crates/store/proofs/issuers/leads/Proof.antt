@@ -1,0 +1,22 @@
+-- By the two tests on the records.
+-- Assumes nothing.
+use borrow.Author.Tests.{lt-ltb, le-ltb, eq-eqb, ne-eqb}
+use native.Mathlib.Omega.{arith}
+use Rattle.store.proofs.issuers.leads.Statement.{statement}
+use Rattle.store.proofs.issuers.leads.Tie as tie
+
+returns : tie.Need-returns
+returns c = rw (lt-ltb _ _ (c .if1 .taken))
+
+returns-2 : tie.Need-returns-2
+returns-2 c =
+    let s = c .before .before .args in
+    rw (le-ltb _ _ (c .before .if1 .left), ne-eqb (s .a) (s .r) (omega arith))
+
+returns-3 : tie.Need-returns-3
+returns-3 c =
+    let s = c .before .before .args in
+    rw (le-ltb _ _ (c .before .if1 .left), eq-eqb (s .a) (s .r) (omega arith))
+
+pub leads-spec : {M : Type 1} → statement M
+leads-spec = tie.close (tie.spec returns returns-2 returns-3)

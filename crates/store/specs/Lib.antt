@@ -1,0 +1,3 @@
+pub mod Roster
+pub mod Issuers
+pub mod Departures

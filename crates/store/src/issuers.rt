@@ -1,0 +1,139 @@
+// The issuer index: which owed transactions issued the record at a key, as pairs by record and then transaction, none twice.
+ghost use mathlib.Core.Path.{_≡_};
+ghost use Prim.Native.Nat.{_≤_, _<_};
+ghost use mathlib.Core.List.{[]};
+ghost use Rattle.lists.specs.Lists.{keep, include};
+ghost use Rattle.lists.specs.Arrays.{insertAt, rank};
+ghost use Rattle.rules.specs.Index.{pairKey, names};
+ghost use Rattle.store.specs.Issuers.{Sound, Rising, Holds, pairsIn, pair, isPair, isNot, roomFor, leadsPair, isBefore};
+use types::RecordKey;
+use types::Transaction;
+
+pub struct Issuers {
+    pub records: [u64; 384],
+    pub transactions: [u64; 384],
+    pub len: usize,
+}
+
+// Whether the pair (a, b) stands before (r, t): by record, then by transaction.
+fn leads(a: u64, b: u64, r: u64, t: u64) -> bool
+    ensures { λ x. ⌜ x ≡ leadsPair a b r t ⌝ }
+{
+    if a < r {
+        return true;
+    }
+    if r < a {
+        return false;
+    }
+    b < t
+}
+
+// Whether the pair (a, b) is (r, t).
+fn is_pair(a: u64, b: u64, r: u64, t: u64) -> bool
+    ensures { λ x. ⌜ x ≡ isPair r t (pair a b) ⌝ }
+{
+    if a == r {
+        return b == t;
+    }
+    false
+}
+
+impl Issuers {
+    pub fn new() -> Issuers
+        ensures { λ x. ⌜ Holds [] x ⌝ }
+    {
+        Issuers {
+            records: [0u64; 384],
+            transactions: [0u64; 384],
+            len: 0,
+        }
+    }
+
+    // How many pairs stand before (r, t).
+    fn rank(self, r: RecordKey, t: Transaction) -> usize
+        requires { ⌜ Sound self ⌝ }
+        ensures { λ x. ⌜ x ≡ rank (isBefore (r .0) (t .0)) (pairsIn self) ⌝ }
+    {
+        let n = self.len;
+        let mut i: usize = 0;
+        while i < n {
+            if leads(self.records[i], self.transactions[i], r.0, t.0) {
+                i += 1;
+            } else {
+                return i;
+            }
+        }
+        i
+    }
+
+    // Whether the transaction is named under the record.
+    pub fn names(self, r: RecordKey, t: Transaction) -> bool
+        requires { ⌜ Sound self ⌝ }
+        ensures { λ x. ⌜ x ≡ names (pairsIn self) (r .0) (t .0) ⌝ }
+    {
+        let n = self.len;
+        let mut i: usize = 0;
+        while i < n {
+            if is_pair(self.records[i], self.transactions[i], r.0, t.0) {
+                return true;
+            }
+            i += 1;
+        }
+        false
+    }
+
+    // The pair put in, unless it stands already.
+    pub fn named(self, r: RecordKey, t: Transaction) -> Issuers
+        requires { ⌜ Sound self × Rising self × roomFor self (r .0) (t .0) ⌝ }
+        ensures { λ x. ⌜ Holds (include pairKey (pair (r .0) (t .0)) (pairsIn self)) x ⌝ }
+    {
+        if self.names(r, t) {
+            return self;
+        }
+        let k = self.rank(r, t);
+        self.opened(k, r, t)
+    }
+
+    // The pair put in at k: those from k on move up by one, from the end.
+    fn opened(self, k: usize, r: RecordKey, t: Transaction) -> Issuers
+        requires { ⌜ Sound self × (k ≤ self .len) × (self .len < 384) ⌝ }
+        ensures { λ x. ⌜ Holds (insertAt k (pair (r .0) (t .0)) (pairsIn self)) x ⌝ }
+    {
+        let mut x = self;
+        let n = x.len;
+        let mut i = n;
+        while k < i {
+            let j = i - 1;
+            x.records[i] = x.records[j];
+            x.transactions[i] = x.transactions[j];
+            i = j;
+        }
+        x.records[k] = r.0;
+        x.transactions[k] = t.0;
+        x.len = n + 1;
+        x
+    }
+
+    // Without the pairs of a transaction.
+    pub fn without(self, t: Transaction) -> Issuers
+        requires { ⌜ Sound self ⌝ }
+        ensures { λ x. ⌜ Holds (keep (isNot (t .0)) (pairsIn self)) x ⌝ }
+    {
+        let mut x = self;
+        let n = x.len;
+        let mut w: usize = 0;
+        let mut i: usize = 0;
+        while i < n {
+            if x.transactions[i] == t.0 {
+                i += 1;
+            } else {
+                x.records[w] = x.records[i];
+                x.transactions[w] = x.transactions[i];
+                w += 1;
+                i += 1;
+            }
+        }
+        x.len = w;
+        x
+    }
+}
