@@ -7,3 +7,6 @@ pub mod Loops
 pub mod Distinct
 pub mod Maps
 pub mod Pairs
+pub mod Picked
+pub mod Room
+pub mod Zip

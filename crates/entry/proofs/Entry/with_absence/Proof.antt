@@ -1,0 +1,99 @@
+-- Where it is read already the absences are the same; else both arrays have it put in at its rank.
+-- Assumes nothing.
+use mathlib.Core.Path.{_≡_, sym, _∙_}
+use mathlib.Core.Bool.{false}
+use native.Mathlib.Omega.{arith}
+use Prim.Native.Nat.{_<_}
+use Rattle.lists.specs.Lists.{has}
+use Rattle.lists.proofs.Order.{include-known}
+use Rattle.rules.specs.Plain.{absenceKey}
+use Rattle.entry.specs.Entry.{absence, absencesOf}
+use Rattle.entry.proofs.Put.{absence-room, absence-rank, absence-put}
+use Rattle.entry.specs.Entry.{plainEntry}
+use borrow.Author.Needs.{needs}
+use Rattle.entry.proofs.Entry.with_absence.Statement.{statement}
+use Rattle.entry.proofs.Entry.with_absence.Tie as tie
+
+fresh : (c : tie.Else1) → has absenceKey (absenceKey (absence (c .before .before .args .shard .0) (c .before .before .args .key))) (absencesOf (c .before .before .args .self)) ≡ false
+unfolding plainEntry
+fresh c = sym (c .before .is-read .ensures) ∙ c .if1 .left
+
+is-read-requires : tie.Need-is-read-requires
+is-read-requires c κs = search needs
+
+returns : tie.Need-returns
+unfolding plainEntry
+returns c =
+    let s = c .before .before in
+    let a = s .args in
+    let known = sym (c .before .is-read .ensures) ∙ c .if1 .taken in
+    record { fits = s .pre .fits; plain = rw (include-known absenceKey (absence (a .shard .0) (a .key)) (absencesOf (a .self)) (s .pre .rising) known) }
+
+cast-n : tie.Need-cast-n
+cast-n c = search needs
+
+rank-absence-requires : tie.Need-rank-absence-requires
+rank-absence-requires c κs = search needs
+
+opened-requires : tie.Need-opened-requires
+unfolding plainEntry
+opened-requires c κs =
+    let s = c .before .before .before .before .before .before in
+    let a = s .args in
+    let new = fresh (c .before .before .before .before) in
+    (omega (arith, c .rank-absence .ensures, absence-rank (a .self) (a .shard .0) (a .key) (s .pre)), absence-room (a .self) (a .shard .0) (a .key) (s .pre) new)
+
+opened-requires-2 : tie.Need-opened-requires-2
+unfolding plainEntry
+opened-requires-2 c κs =
+    let s = c .before .before .before .before .before .before .before in
+    let a = s .args in
+    let new = fresh (c .before .before .before .before .before) in
+    (omega (arith, c .before .rank-absence .ensures, absence-rank (a .self) (a .shard .0) (a .key) (s .pre)), absence-room (a .self) (a .shard .0) (a .key) (s .pre) new)
+
+add-e : tie.Need-add-e
+add-e c = search needs
+
+returns-2 : tie.Need-returns-2
+unfolding plainEntry
+returns-2 c =
+    let s = c .before .before .before .before .before .before .before .before .before in
+    let a = s .args in
+    let new = fresh (c .before .before .before .before .before .before .before) in
+    let room : a .self .«absences_len» < 8 = absence-room (a .self) (a .shard .0) (a .key) (s .pre) new in
+    let put = absence-put (a .self) (a .shard .0) (a .key) (s .pre) _ _ _ new (c .before .before .before .rank-absence .ensures) (c .before .before .opened .ensures) (c .before .opened2 .ensures) in
+    let f = s .pre .fits in
+    record {
+      fits = record {
+        routesLen = f .routesLen;
+        coreLen = f .coreLen;
+        edgesLen = f .edgesLen;
+        absencesLen = omega arith;
+        marksLen = f .marksLen;
+        few = f .few;
+        routes = f .routes;
+        core = f .core;
+        ids = f .ids;
+        froms = f .froms;
+        kinds = f .kinds;
+        sizes = f .sizes;
+        to = f .to;
+        absentShards = c .before .before .opened .ensures .size;
+        absentKeys = c .before .opened2 .ensures .size;
+        marks = f .marks;
+      };
+      plain = rw put;
+    }
+
+pub with-absence-spec : {M : Type 1} → statement M
+with-absence-spec =
+    tie.close
+    (tie.spec
+    is-read-requires
+    returns
+    cast-n
+    rank-absence-requires
+    opened-requires
+    opened-requires-2
+    add-e
+    returns-2)

@@ -1,0 +1,3 @@
+pub mod Edges
+pub mod Absent
+pub mod Put

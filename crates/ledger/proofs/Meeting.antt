@@ -1,0 +1,34 @@
+-- How a call meets its contract: one law for every refusal, one for a call that goes through and is lent no list.
+-- Assumes nothing.
+use Prim.Native.Nat.{ℕ, zero, suc}
+use mathlib.Core.Path.{_≡_, refl, sym, ap, _∙_}
+use mathlib.Core.List.{List, [], _∷_}
+use lib.ListN.{getD}
+use Rattle.rules.specs.Plain.{Plain}
+use Rattle.rules.specs.Outcome.{Outcome, done, unless}
+use Rattle.ledger.specs.declared.Ledger.{Ledger}
+use Rattle.ledger.specs.declared.Done.{Done}
+use Rattle.ledger.specs.Contents.{contents, Held}
+use Rattle.ledger.specs.Meets.{Meets}
+use Rattle.ledger.proofs.Lift.{Became}
+
+-- the table gives a number: it is said, and nothing else is done
+pub refuses : (n : ℕ) (l : Ledger) (lent : List ℕ) (m : ℕ) (o : Outcome) (r : Done) → Held l → m ≡ suc n →
+    r ≡ record { refused = suc n; answer = 0; fallen = 0; ledger = l } → Meets (unless m (contents l) o) lent lent r
+refuses n l lent m o r h e q =
+    rw (e, q) (record { refused = refl; answer = refl; fallen = refl; ledger = refl; wrote = refl; held = h })
+
+-- the table gives none
+pub passes : (m : ℕ) (p : Plain) (o : Outcome) (lent after : List ℕ) (r : Done) → m ≡ 0 → Meets o lent after r → Meets (unless m p o) lent after r
+passes m p o lent after r e g = rw e g
+
+-- the ledger became what the call says, which answers a number or nothing
+pub answers : (n : ℕ) (l : Ledger) (p : Plain) (r : Done) → Became p l → r ≡ record { refused = 0; answer = n; fallen = 0; ledger = l } →
+    Meets (done (n ∷ []) p) [] [] r
+answers n l p r b q =
+    rw q (record { refused = refl; answer = refl; fallen = refl; ledger = b .holds; wrote = refl; held = b .held })
+
+pub silent : (l : Ledger) (p : Plain) (r : Done) → Became p l → r ≡ record { refused = 0; answer = 0; fallen = 0; ledger = l } →
+    Meets (done [] p) [] [] r
+silent l p r b q =
+    rw q (record { refused = refl; answer = refl; fallen = refl; ledger = b .holds; wrote = refl; held = b .held })
