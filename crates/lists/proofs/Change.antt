@@ -1,7 +1,7 @@
 -- Lists in rising order of a key: what holds after the element with a key is changed, or one is put in, and what is then found.
 -- Assumes nothing.
 use Prim.Native.Nat.{ℕ, zero, suc, _+_, _≤_, _<_}
-use mathlib.Core.Path.{_≡_, refl, sym, ap, _∙_}
+use mathlib.Core.Path.{_≡_, refl, sym, ap, ap₂, _∙_}
 use mathlib.Core.List.{List, [], _∷_, _++_, map}
 use mathlib.Core.Bool.{Bool, true, false, cond, not, _&&_, _||_, false≢true, true≢false}
 use mathlib.Core.Option.{Option, none, some}
@@ -34,6 +34,17 @@ module _ {A : Type 0} (key : A → ℕ) where
       go true u c′ ih =
           (c′ x refl (v .0), rw (change-lacking t f l (above-lacks key t (key x) l (omega (arith, eqb-true (key x) t u)) (a .0))) (v .1))
       go false u c′ ih = (v .0, ih c′ (v .1))
+
+  -- a change that leaves the one with the key leaves all
+  pub change-same : (t : ℕ) (f : A → A) (x : A) (l : List A) → Ascending key l → get key t l ≡ some x → f x ≡ x → change key t f l ≡ l
+  change-same t f x [] a q s = refl
+  change-same t f x (y ∷ l) a q s = go (eqb (key y) t) refl q (change-same t f x l (a .1))
+    where
+      go : (b : Bool) → eqb (key y) t ≡ b → cond b (some y) (get key t l) ≡ some x → (get key t l ≡ some x → f x ≡ x → change key t f l ≡ l) → cond b (f y) y ∷ change key t f l ≡ y ∷ l
+      go true u q′ ih =
+          let e : y ≡ x = cc in
+          ap₂ _∷_ (ap f e ∙ s ∙ sym e) (change-lacking t f l (above-lacks key t (key y) l (omega (arith, eqb-true (key y) t u)) (a .0)))
+      go false u q′ ih = ap (λ m. y ∷ m) (ih q′ s)
 
   -- a change that leaves the keys leaves what is there
   pub has-change : (u t : ℕ) (f : A → A) (l : List A) → ((x : A) → key (f x) ≡ key x) → has key u (change key t f l) ≡ has key u l

@@ -10,3 +10,4 @@ pub mod Pairs
 pub mod Picked
 pub mod Room
 pub mod Zip
+pub mod Cuts

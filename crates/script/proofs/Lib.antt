@@ -1,0 +1,5 @@
+-- Laws of the script's text.
+-- Assumes nothing.
+pub mod Digits
+pub mod Grammar
+pub mod Names

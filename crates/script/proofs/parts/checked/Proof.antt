@@ -1,0 +1,47 @@
+-- `script::parts::checked`: A call is made only where the count is the one it takes.
+-- Assumes nothing.
+use borrow.Author.Tests.{not-false}
+use borrow.Author.Needs.{needs}
+use Rattle.script.proofs.parts.checked.Statement.{statement}
+use Rattle.script.proofs.parts.checked.Tie as tie
+
+bad-requires : tie.Need-bad-requires
+bad-requires c κs = search needs
+
+returns : tie.Need-returns
+returns c = search needs
+
+takes-requires : tie.Need-takes-requires
+takes-requires c κs = search needs
+
+bad-requires-2 : tie.Need-bad-requires-2
+bad-requires-2 c κs = search needs
+
+returns-2 : tie.Need-returns-2
+returns-2 c = search needs
+
+bad-requires-3 : tie.Need-bad-requires-3
+bad-requires-3 c κs = search needs
+
+returns-3 : tie.Need-returns-3
+returns-3 c = search needs
+
+call-requires : tie.Need-call-requires
+call-requires c κs = (search needs, search needs, search needs, c .before .before .takes .ensures (not-false _ (c .before .if2 .left)))
+
+returns-4 : tie.Need-returns-4
+returns-4 c = search needs
+
+pub checked-spec : {M : Type 1} → statement M
+checked-spec =
+    tie.close
+    (tie.spec
+    bad-requires
+    returns
+    takes-requires
+    bad-requires-2
+    returns-2
+    bad-requires-3
+    returns-3
+    call-requires
+    returns-4)

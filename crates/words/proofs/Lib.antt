@@ -1,0 +1,4 @@
+pub mod Forms
+pub mod Groups
+pub mod Lines
+pub mod Built

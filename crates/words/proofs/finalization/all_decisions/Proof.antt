@@ -1,0 +1,71 @@
+-- The invariant: the test of each decision still to come is the test of each.
+-- Assumes nothing.
+use borrow.Author.Needs.{needs}
+use Prim.Native.Nat.{_≤_, _-_}
+use mathlib.Core.Path.{_≡_, sym, _∙_}
+use mathlib.Core.Bool.{_&&_}
+use lib.ListN.{length, drop}
+use lib.Dec.{leb}
+use borrow.Author.Tests.{not-true, not-false}
+use Rattle.lists.specs.Lists.{all}
+use Rattle.lists.proofs.Cuts.{all-hit, all-miss, all-end}
+use Rattle.words.proofs.finalization.all_decisions.Statement.{statement}
+use Rattle.words.proofs.finalization.all_decisions.Tie as tie
+
+abbrev Inv-loop : tie.InvT-loop
+Inv-loop s i₀ i = (i ≤ length s) × (all (λ d. leb 1 d && leb d 3) (drop i s) ≡ all (λ d. leb 1 d && leb d 3) s)
+
+abbrev μ-loop : tie.MeasureT-loop
+μ-loop s i₀ i = length s - i
+
+loop-holds : tie.Need-loop-holds Inv-loop μ-loop
+loop-holds c = search needs
+
+mul-is-decision : tie.Need-mul-is-decision Inv-loop μ-loop
+mul-is-decision c = search needs
+
+shared-slice-read-is-decision : tie.Need-shared-slice-read-is-decision Inv-loop μ-loop
+shared-slice-read-is-decision c = search needs
+
+is-decision-requires : tie.Need-is-decision-requires Inv-loop μ-loop
+is-decision-requires c κs = search needs
+
+returns : tie.Need-returns Inv-loop μ-loop
+returns c =
+    let l = c .before .before .before .before .loop in
+    let a = c .before .before .before .before .before .before .args in
+    sym (sym (l .inv .1) ∙ all-miss (λ d. leb 1 d && leb d 3) 0 (a .s .now) (l .i) (search needs) (sym (c .before .is-decision .ensures) ∙ not-true _ (c .if1 .taken)))
+
+add-i : tie.Need-add-i Inv-loop μ-loop
+add-i c = search needs
+
+loop-less : tie.Need-loop-less Inv-loop μ-loop
+loop-less c = search needs
+
+loop-again : tie.Need-loop-again Inv-loop μ-loop
+loop-again c =
+    let l = c .before .before .before .before .loop in
+    let a = c .before .before .before .before .before .before .args in
+    (search needs, all-hit (λ d. leb 1 d && leb d 3) 0 (a .s .now) (l .i) (search needs) (sym (c .before .is-decision .ensures) ∙ not-false _ (c .if1 .left)) ∙ l .inv .1)
+
+returns-2 : tie.Need-returns-2 Inv-loop μ-loop
+returns-2 c =
+    let l = c .before .loop in
+    let a = c .before .before .before .args in
+    sym (sym (l .inv .1) ∙ all-end (λ d. leb 1 d && leb d 3) (a .s .now) (l .i) (c .loop-test .left))
+
+pub all-decisions-spec : {M : Type 1} → statement M
+all-decisions-spec =
+    tie.close
+    (tie.spec
+    Inv-loop
+    μ-loop
+    loop-holds
+    mul-is-decision
+    shared-slice-read-is-decision
+    is-decision-requires
+    returns
+    add-i
+    loop-less
+    loop-again
+    returns-2)
