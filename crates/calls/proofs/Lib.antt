@@ -1,2 +1,6 @@
 pub mod Single
 pub mod Empties
+pub mod Departing
+pub mod Named
+pub mod Admitting
+pub mod Resolving

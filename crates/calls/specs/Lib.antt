@@ -1,1 +1,5 @@
 pub mod Fresh
+pub mod Terminals
+pub mod Naming
+pub mod Refusals
+pub mod Rulings

@@ -1,6 +1,9 @@
 // The calls that change a ledger. Each takes the ledger and hands it back, answers or refuses by a number, and a refusal changes neither
 // the ledger nor the lent list.
+pub mod admission;
 pub mod certificate;
+pub mod finalization;
 pub mod making;
 pub mod release;
 pub mod settlement;
+pub mod terminal;

@@ -53,7 +53,7 @@ pub struct Entry {
 }
 
 // Whether an edge from this shard has this id's record key.
-fn is_issue(from: u64, id: u64, local: Shard, r: RecordKey) -> bool
+pub fn is_issue(from: u64, id: u64, local: Shard, r: RecordKey) -> bool
     ensures { λ x. ⌜ x ≡ eqb from (local .0) && eqb (recordKey id) (r .0) ⌝ }
 {
     let key = types::record_key(id);

@@ -11,3 +11,6 @@ pub mod Picked
 pub mod Room
 pub mod Zip
 pub mod Cuts
+pub mod Counting
+pub mod Sets
+pub mod Listing

@@ -1,0 +1,138 @@
+// Terminal and stamp: where a departed shard's chain was cut, and until when what it left is readable.
+ghost use mathlib.Core.Path.{_≡_};
+ghost use mathlib.Core.Bool.{not, _&&_, _||_};
+ghost use mathlib.Core.List.{[]};
+ghost use lib.Dec.{leb};
+ghost use lib.ListN.{length};
+ghost use Rattle.lists.specs.Lists.{has};
+ghost use Rattle.rules.specs.Plain.{shardOf};
+ghost use Rattle.rules.specs.Calls.{afterTerminal, afterStamp};
+ghost use Rattle.store.specs.Departures.{Sound, onFile};
+ghost use Rattle.ledger.specs.Contents.{Held, contents};
+ghost use Rattle.ledger.specs.Meets.{Meets};
+ghost use Rattle.calls.specs.Terminals.{isUntil, wordsRefusal};
+use ledger::Done;
+use ledger::Ledger;
+use lists::Found;
+use store::departures::Departures;
+use types::Shard;
+use types::Time;
+use types::is_shard;
+use types::is_time;
+
+// Whether until is a time, where it is read at all.
+fn is_until(stamped: u64, until: Time) -> bool
+    ensures { λ r. ⌜ r ≡ isUntil stamped (until .0) ⌝ }
+{
+    if stamped == 0 {
+        return true;
+    }
+    is_time(until.0)
+}
+
+// The number by which the words of a terminal are turned away, 0 for none.
+fn refusal(shard: Shard, cut: Time, stamped: u64, until: Time) -> u64
+    ensures { λ r. ⌜ r ≡ wordsRefusal (shard .0) (cut .0) stamped (until .0) ⌝ }
+{
+    if 1 < stamped {
+        return 5;
+    }
+    if !is_time(cut.0) {
+        return 3;
+    }
+    if !is_until(stamped, until) {
+        return 3;
+    }
+    if !is_shard(shard.0) {
+        return 4;
+    }
+    0
+}
+
+// Whether the shard is on file already or there is room for it.
+fn has_room(departures: Departures, shard: Shard) -> bool
+    requires { ⌜ Sound departures ⌝ }
+    ensures { λ r. ⌜ r ≡ has shardOf (shard .0) (onFile departures) || not (leb 32 (length (onFile departures))) ⌝ }
+{
+    let Found::Nothing = departures.find(shard) else {
+        return true;
+    };
+    departures.len < 32
+}
+
+// The shard departed at its cut, stamped or not yet: the first cut holds, and so does the first stamp.
+pub fn record_terminal(ledger: Ledger, shard: Shard, cut: Time, stamped: u64, until: Time) -> Done
+    requires { ⌜ Held ledger ⌝ }
+    ensures { λ r. ⌜ Meets (afterTerminal (shard .0) (cut .0) stamped (until .0) (contents ledger)) [] [] r ⌝ }
+{
+    let mut l = ledger;
+    let n = refusal(shard, cut, stamped, until);
+    if 0 < n {
+        return Done {
+            refused: n,
+            answer: 0,
+            fallen: 0,
+            ledger: l,
+        };
+    }
+    let departures = l.departures;
+    if !has_room(departures, shard) {
+        return Done {
+            refused: 8,
+            answer: 0,
+            fallen: 0,
+            ledger: l,
+        };
+    }
+    let known = departures.departed(shard, cut);
+    if stamped == 0 {
+        l.departures = known;
+        return Done {
+            refused: 0,
+            answer: 0,
+            fallen: 0,
+            ledger: l,
+        };
+    }
+    let dated = known.stamped(shard, until);
+    l.departures = dated;
+    Done {
+        refused: 0,
+        answer: 0,
+        fallen: 0,
+        ledger: l,
+    }
+}
+
+// A departure on file stamped; on a shard that is not on file a stamp is nothing.
+pub fn stamp_terminal(ledger: Ledger, shard: Shard, until: Time) -> Done
+    requires { ⌜ Held ledger ⌝ }
+    ensures { λ r. ⌜ Meets (afterStamp (shard .0) (until .0) (contents ledger)) [] [] r ⌝ }
+{
+    let mut l = ledger;
+    if !is_time(until.0) {
+        return Done {
+            refused: 3,
+            answer: 0,
+            fallen: 0,
+            ledger: l,
+        };
+    }
+    if !is_shard(shard.0) {
+        return Done {
+            refused: 4,
+            answer: 0,
+            fallen: 0,
+            ledger: l,
+        };
+    }
+    let departures = l.departures;
+    let dated = departures.stamped(shard, until);
+    l.departures = dated;
+    Done {
+        refused: 0,
+        answer: 0,
+        fallen: 0,
+        ledger: l,
+    }
+}

@@ -1,0 +1,31 @@
+-- `judge::routes::is_over_remote` meets its contract: the second test is read where the first passed.
+-- Assumes nothing.
+use mathlib.Core.Path.{ap}
+use mathlib.Core.Bool.{not}
+use Rattle.judge.proofs.Seeing.{and-then, and-not, isRemote, told}
+use borrow.Author.Needs.{needs}
+use Rattle.judge.proofs.routes.is_over_remote.Statement.{statement}
+use Rattle.judge.proofs.routes.is_over_remote.Tie as tie
+
+owns-requires : tie.Need-owns-requires
+owns-requires c κs = search needs
+
+led-by-one-requires : tie.Need-led-by-one-requires
+led-by-one-requires c κs = search needs
+
+is-over-requires : tie.Need-is-over-requires
+is-over-requires c κs = search needs
+
+returns : tie.Need-returns
+returns c =
+    let s = c .before .before .before .before .args in
+    and-then (isRemote (s .local .0) (s .route)) (told (s .anchor) (s .route) (s .shard) (s .zeros) (s .cut)) _ _ (c .before .before .if1 .taken) (ap not (c .before .before .before .owns .ensures)) (rw (c .before .led-by-one .ensures) at (c .is-over .ensures))
+
+returns-2 : tie.Need-returns-2
+returns-2 c =
+    let s = c .before .before .args in
+    and-not (isRemote (s .local .0) (s .route)) (told (s .anchor) (s .route) (s .shard) (s .zeros) (s .cut)) _ (c .if1 .left) (ap not (c .before .owns .ensures))
+
+pub is-over-remote-spec : {M : Type 1} → statement M
+is-over-remote-spec =
+    tie.close (tie.spec owns-requires led-by-one-requires is-over-requires returns returns-2)

@@ -1,0 +1,176 @@
+// What an entry's routes ask of the departures: rule 4, and which departures the entry still needs.
+use crate::views::View;
+use entry::Entry;
+use types::Shard;
+use types::Time;
+ghost use mathlib.Core.Path.{_≡_};
+ghost use mathlib.Core.Bool.{_&&_, _||_, true, not};
+ghost use mathlib.Core.List.{List};
+ghost use lib.Dec.{eqb, ltb, leb};
+ghost use lib.ListN.{take, getD};
+ghost use Prim.Native.Nat.{ℕ, _+_, _/_, _^_, _≤_, _<_};
+ghost use Rattle.lists.specs.Lists.{filled};
+ghost use Rattle.rules.specs.Plain as plain;
+ghost use Rattle.rules.specs.Plain.{remote};
+ghost use Rattle.rules.specs.Numbers.{isShard, owns};
+ghost use Rattle.rules.specs.Prune.{holds};
+ghost use Rattle.entry.specs.Entry.{plainEntry, Fits};
+ghost use Rattle.judge.specs.View.{Sized, Shows, zerosOf};
+ghost use Rattle.judge.specs.Answers.{Asks, answersYet, coversSome};
+
+// More than any cut and any shard.
+const TOP: u64 = 0xFFFF_FFFF_FFFF_FFFF;
+
+// A route with a one bit put in front, which one shift compares with a shard.
+fn led_by_one(route: u64) -> u64
+    ensures { λ r. ⌜ r ≡ route / 2 + 2 ^ 63 ⌝ }
+{
+    (route >> 1) + 0x8000_0000_0000_0000
+}
+
+// Whether a departure is over a route: its shard owns it, and its cut is after the anchor.
+fn is_over(led: u64, shard: u64, zeros: u32, cut: u64, anchor: u64) -> bool
+    requires { ⌜ zeros < 64 ⌝ }
+    ensures { λ r. ⌜ r ≡ (eqb (led / 2 ^ zeros) shard && ltb anchor cut) ⌝ }
+{
+    (led >> zeros) == shard && anchor < cut
+}
+
+// The smaller cut counts, the lower shard on equal cuts.
+fn counts_before(cut: u64, shard: u64, best: u64, lowest: u64) -> bool
+    ensures { λ r. ⌜ r ≡ (ltb cut best || (eqb cut best && leb shard lowest)) ⌝ }
+{
+    cut < best || (cut == best && shard <= lowest)
+}
+
+// Whether a departure is over the route and counts before the best so far.
+fn counts_over(
+    led: u64,
+    shard: u64,
+    zeros: u32,
+    cut: u64,
+    anchor: u64,
+    best: u64,
+    lowest: u64,
+) -> bool
+    requires { ⌜ zeros < 64 ⌝ }
+    ensures { λ r. ⌜ r ≡ ((eqb (led / 2 ^ zeros) shard && ltb anchor cut) && (ltb cut best || (eqb cut best && leb shard lowest))) ⌝ }
+{
+    is_over(led, shard, zeros, cut, anchor) && counts_before(cut, shard, best, lowest)
+}
+
+// Rule 4's question: over some remote route there is no departure, or the one that counts is readable. The departures are gone
+// through downwards, with the best so far beside.
+pub fn answers_yet(routes: [u64; 8], n: usize, anchor: Time, local: Shard, v: View) -> bool
+    requires { ⌜ n ≤ 8 ⌝ }
+    requires { ⌜ isShard (local .0) ≡ true ⌝ }
+    requires { ⌜ Sized v ⌝ }
+    ensures { λ r. ⌜ ((ds : List plain.Departure) (now : ℕ) (e : plain.Entry) → Shows ds now v → Asks (take n routes) (anchor .0) e → r ≡ answersYet now ds (local .0) e) ⌝ }
+{
+    let mut stands = false;
+    let mut i: usize = 0;
+    'routes: while i < n {
+        let route = routes[i];
+        if local.owns(route) {
+            i += 1;
+            continue 'routes;
+        }
+        let led = led_by_one(route);
+        let mut best = TOP;
+        let mut lowest = TOP;
+        let mut answers = true;
+        let mut j = v.len;
+        while 0 < j {
+            j -= 1;
+            let shard = v.shards[j];
+            let cut = v.cuts[j];
+            let readable = v.readable[j];
+            if counts_over(led, shard, v.zeros[j], cut, anchor.0, best, lowest) {
+                best = cut;
+                lowest = shard;
+                answers = readable;
+            }
+        }
+        if answers {
+            stands = true;
+            break 'routes;
+        }
+        i += 1;
+    }
+    stands
+}
+
+// Whether some route is remote.
+pub fn reaches_beyond(routes: [u64; 8], n: usize, local: Shard) -> bool
+    requires { ⌜ n ≤ 8 ⌝ }
+    requires { ⌜ isShard (local .0) ≡ true ⌝ }
+    ensures { λ r. ⌜ ((t : plain.Terms) → t .routes ≡ take n routes → r ≡ filled (remote (local .0) t)) ⌝ }
+{
+    let mut i: usize = 0;
+    while i < n {
+        if !local.owns(routes[i]) {
+            return true;
+        }
+        i += 1;
+    }
+    false
+}
+
+// Whether a departure is over a route that local does not own.
+fn is_over_remote(route: u64, local: Shard, shard: u64, zeros: u32, cut: u64, anchor: u64) -> bool
+    requires { ⌜ zeros < 64 ⌝ }
+    requires { ⌜ isShard (local .0) ≡ true ⌝ }
+    ensures { λ r. ⌜ r ≡ (not (owns (local .0) route) && (eqb ((route / 2 + 2 ^ 63) / 2 ^ zeros) shard && ltb anchor cut)) ⌝ }
+{
+    !local.owns(route) && is_over(led_by_one(route), shard, zeros, cut, anchor)
+}
+
+// Whether a departure is over some remote route.
+fn covers_some(
+    routes: [u64; 8],
+    n: usize,
+    anchor: Time,
+    local: Shard,
+    shard: u64,
+    zeros: u32,
+    cut: u64,
+) -> bool
+    requires { ⌜ n ≤ 8 ⌝ }
+    requires { ⌜ isShard (local .0) ≡ true ⌝ }
+    requires { ⌜ zeros < 64 ⌝ }
+    ensures { λ r. ⌜ ((d : plain.Departure) (e : plain.Entry) → isShard (d .shard) ≡ true → shard ≡ d .shard → zeros ≡ zerosOf d → cut ≡ d .cut → Asks (take n routes) (anchor .0) e → r ≡ coversSome (local .0) d e) ⌝ }
+{
+    let mut i: usize = 0;
+    while i < n {
+        if is_over_remote(routes[i], local, shard, zeros, cut, anchor.0) {
+            return true;
+        }
+        i += 1;
+    }
+    false
+}
+
+// Whether an entry needs the departure at a place of the view: its shard names the entry, or it is over a remote route of it.
+pub fn needs(e: Entry, local: Shard, v: View, j: usize) -> bool
+    requires { ⌜ Fits e ⌝ }
+    requires { ⌜ isShard (local .0) ≡ true ⌝ }
+    requires { ⌜ Sized v ⌝ }
+    requires { ⌜ j < v .len ⌝ }
+    ensures { λ r. ⌜ ((ds : List plain.Departure) (now : ℕ) (d : plain.Departure) → Shows ds now v → r ≡ holds (local .0) (getD ds j d) (plainEntry e)) ⌝ }
+{
+    let shard = v.shards[j];
+    if e.naming.0 == shard {
+        return true;
+    }
+    let routes = e.routes;
+    let anchor = e.anchor;
+    covers_some(
+        routes,
+        e.routes_len as usize,
+        anchor,
+        local,
+        shard,
+        v.zeros[j],
+        v.cuts[j],
+    )
+}

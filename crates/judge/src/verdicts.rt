@@ -1,0 +1,117 @@
+// The five rules.
+use crate::routes;
+use crate::views;
+use crate::views::View;
+use entry::Entry;
+use entry::Part;
+use types::Shard;
+use types::Time;
+ghost use mathlib.Core.Path.{_≡_};
+ghost use mathlib.Core.Bool.{_&&_, _||_, true};
+ghost use lib.Dec.{ltb};
+ghost use Prim.Native.Nat.{ℕ, _<_};
+ghost use Rattle.rules.specs.Plain as plain;
+ghost use Rattle.rules.specs.Plain.{isCore, isSettling};
+ghost use Rattle.rules.specs.Numbers.{isShard, isTime, isSpan};
+ghost use Rattle.entry.specs.Entry.{plainEntry, plainPart, Fits};
+ghost use Rattle.judge.specs.View.{Sized};
+ghost use Rattle.judge.specs.Verdict.{Says, Faces, unlessTold, unlessQuiet, byRoutes};
+
+// Told holds what the report says of covered, 0 or 1; an entry that only falls is not reported.
+pub enum Verdict {
+    Stands,
+    Falls,
+    Told(u64),
+}
+
+// By a rule whose falls are not reported.
+fn quiet(stands: bool) -> Verdict
+    ensures { λ r. ⌜ r ≡ unlessQuiet stands ⌝ }
+{
+    if stands {
+        Verdict::Stands
+    } else {
+        Verdict::Falls
+    }
+}
+
+// By a rule whose falls are reported.
+fn told(stands: bool, covered: u64) -> Verdict
+    ensures { λ r. ⌜ r ≡ unlessTold covered stands ⌝ }
+{
+    if stands {
+        Verdict::Stands
+    } else {
+        Verdict::Told(covered)
+    }
+}
+
+// Rule 1: core with certificate below 2.
+fn is_awaiting(part: Part, certified: u8) -> bool
+    ensures { λ r. ⌜ r ≡ (isCore (plainPart part) && ltb certified 2) ⌝ }
+{
+    match part {
+        Part::Core => certified < 2,
+        Part::Whole => false,
+        Part::Leg => false,
+        Part::Remainder => false,
+    }
+}
+
+// Rule 2: leg, remainder or any absence.
+fn is_settling(part: Part, absences: u8) -> bool
+    ensures { λ r. ⌜ r ≡ (isSettling (plainPart part) || ltb 0 absences) ⌝ }
+{
+    match part {
+        Part::Leg => true,
+        Part::Remainder => true,
+        Part::Whole => 0 < absences,
+        Part::Core => 0 < absences,
+    }
+}
+
+// Rules 4 and 5, of an entry that no record names and that has no absence.
+fn by_routes(e: Entry, local: Shard, validity: u64, time: Time, v: View) -> Verdict
+    requires { ⌜ Fits e ⌝ }
+    requires { ⌜ isShard (local .0) ≡ true ⌝ }
+    requires { ⌜ isTime (e .at .0) ≡ true ⌝ }
+    requires { ⌜ isSpan validity ≡ true ⌝ }
+    requires { ⌜ Sized v ⌝ }
+    ensures { λ r. ⌜ ((p : plain.Plain) (l : ℕ) → Faces p (time .0) (local .0) validity l v → r ≡ byRoutes p (time .0) (plainEntry e)) ⌝ }
+{
+    let routes = e.routes;
+    let n = e.routes_len as usize;
+    if 0 < e.certified {
+        if routes::reaches_beyond(routes, n, local) {
+            let anchor = e.anchor;
+            return told(routes::answers_yet(routes, n, anchor, local, v), 0);
+        }
+    }
+    quiet(time.0 < e.at.0 + validity)
+}
+
+// The verdict on an entry at a clock, by the first rule that fits.
+pub fn judge(e: Entry, local: Shard, validity: u64, leg_span: u64, time: Time, v: View) -> Verdict
+    requires { ⌜ Fits e ⌝ }
+    requires { ⌜ isShard (local .0) ≡ true ⌝ }
+    requires { ⌜ isTime (e .at .0) ≡ true ⌝ }
+    requires { ⌜ isSpan validity ≡ true ⌝ }
+    requires { ⌜ isSpan «leg_span» ≡ true ⌝ }
+    requires { ⌜ Sized v ⌝ }
+    ensures { λ r. ⌜ ((p : plain.Plain) → Faces p (time .0) (local .0) validity «leg_span» v → Says r p (time .0) (plainEntry e)) ⌝ }
+{
+    let part = e.part;
+    let naming = e.naming;
+    let settles = is_settling(part, e.absences_len);
+    let named = 0 < naming.0;
+    if is_awaiting(part, e.certified) {
+        return Verdict::Stands;
+    }
+    if settles {
+        return quiet(time.0 < e.at.0 + leg_span);
+    }
+    if named {
+        return told(views::named_readable(naming, v), 1);
+    }
+    by_routes(e, local, validity, time, v)
+}

@@ -1,0 +1,87 @@
+// The departures on file as a prune reads them, and rule 3's question.
+use store::departures::Departure;
+use store::departures::Departures;
+use types::Shard;
+use types::Time;
+ghost use mathlib.Core.Path.{_≡_};
+ghost use mathlib.Core.Bool.{_&&_, true};
+ghost use mathlib.Core.List.{List};
+ghost use lib.Dec.{eqb, ltb};
+ghost use Prim.Native.Nat.{ℕ, _<_};
+ghost use Rattle.lists.specs.Lists.{Every};
+ghost use Rattle.rules.specs.Plain as plain;
+ghost use Rattle.rules.specs.Prune.{readable};
+ghost use Rattle.rules.specs.Good.{GoodDeparture};
+ghost use Rattle.store.specs.Departures.{plainDeparture, onFile, Sound};
+ghost use Rattle.judge.specs.View.{Sized, Shows};
+ghost use Rattle.judge.specs.Answers.{namedReadable};
+
+// Of each departure its shard, the leading zeros of the shard, its cut, and whether it is readable at the clock.
+pub struct View {
+    pub shards: [u64; 32],
+    pub zeros: [u32; 32],
+    pub cuts: [u64; 32],
+    pub readable: [bool; 32],
+    pub len: usize,
+}
+
+// Readable unstamped, or while the clock is not past until.
+pub fn is_readable(d: Departure, time: Time) -> bool
+    ensures { λ r. ⌜ r ≡ readable (time .0) (plainDeparture d) ⌝ }
+{
+    if d.stamped { time.0 <= d.until.0 } else { true }
+}
+
+impl View {
+    pub fn of(d: Departures, time: Time) -> View
+        requires { ⌜ Sound d ⌝ }
+        requires { ⌜ Every GoodDeparture (onFile d) ⌝ }
+        ensures { λ r. ⌜ Shows (onFile d) (time .0) r ⌝ }
+    {
+        let n = d.len;
+        let items = d.items;
+        let mut shards = [0u64; 32];
+        let mut zeros = [0u32; 32];
+        let mut cuts = [0u64; 32];
+        let mut readable = [false; 32];
+        let mut i: usize = 0;
+        while i < n {
+            let x = items[i];
+            shards[i] = x.shard.0;
+            zeros[i] = u64::leading_zeros(x.shard.0);
+            cuts[i] = x.cut.0;
+            readable[i] = is_readable(x, time);
+            i += 1;
+        }
+        View {
+            shards,
+            zeros,
+            cuts,
+            readable,
+            len: n,
+        }
+    }
+}
+
+// Whether a departure is of the naming shard and readable.
+fn is_named_open(naming: u64, shard: u64, readable: bool) -> bool
+    ensures { λ r. ⌜ r ≡ (eqb naming shard && readable) ⌝ }
+{
+    naming == shard && readable
+}
+
+// Whether the shard that names an entry has a readable departure.
+pub fn named_readable(naming: Shard, v: View) -> bool
+    requires { ⌜ Sized v ⌝ }
+    ensures { λ r. ⌜ ((ds : List plain.Departure) (now : ℕ) (e : plain.Entry) → Shows ds now v → e .naming ≡ naming .0 → ltb 0 (e .naming) ≡ true → r ≡ namedReadable now ds e) ⌝ }
+{
+    let n = v.len;
+    let mut i: usize = 0;
+    while i < n {
+        if is_named_open(naming.0, v.shards[i], v.readable[i]) {
+            return true;
+        }
+        i += 1;
+    }
+    false
+}

@@ -1,0 +1,35 @@
+-- The shards gathered are written out.
+-- Assumes nothing.
+use mathlib.Core.Path.{sym}
+use native.Mathlib.Omega.{arith}
+use Rattle.ledger.specs.Contents.{contents}
+use Rattle.readings.proofs.Listed.{of-departures}
+use borrow.Author.Needs.{needs}
+use Rattle.readings.proofs.shards.unstamped_departures.Statement.{statement}
+use Rattle.readings.proofs.shards.unstamped_departures.Tie as tie
+
+unstamped-requires : tie.Need-unstamped-requires
+unfolding contents
+unstamped-requires c κs =
+    let s = c .before .before in
+    (s .pre .departures, s .pre .good .departureOrder)
+
+slice-aggregate-list : tie.Need-slice-aggregate-list
+slice-aggregate-list c = sym (c .before .before .unstamped .ensures .sound .sized .size)
+
+list-requires : tie.Need-list-requires
+list-requires c κs =
+    let z = c .before .before .before .unstamped .ensures .sound .sized in
+    omega (arith, z .room, z .size)
+
+same-length : tie.Need-same-length
+same-length c = search needs
+
+returns : tie.Need-returns
+returns c =
+    let s = c .before .before .before .before .before .before .before .before .before in
+    of-departures (s .args .ledger) _ (s .args .lent .now) _ _ (c .before .before .before .before .before .before .unstamped .ensures) (c .before .before .list .ensures)
+
+pub unstamped-departures-spec : {M : Type 1} → statement M
+unstamped-departures-spec =
+    tie.close (tie.spec unstamped-requires slice-aggregate-list list-requires same-length returns)
