@@ -1,11 +1,11 @@
 -- Admission: what each line of its table and each branch after it gives, from what the parts did.
 -- Assumes nothing.
-use Prim.Native.Nat.{ℕ, zero, suc, _+_, _-_, _^_, _≤_, _<_}
+use Prim.Native.Nat.{ℕ, zero, suc, _-_, _^_, _≤_, _<_}
 use mathlib.Core.Path.{_≡_, refl, sym, ap, _∙_}
-use mathlib.Core.Bool.{Bool, true, false, cond, not, true≢false}
+use mathlib.Core.Bool.{Bool, true, false, not}
 use mathlib.Core.List.{List, [], _∷_}
 use native.Mathlib.Omega.{arith}
-use lib.Dec.{eqb, ltb}
+use lib.Dec.{eqb}
 use lib.ListN.{length, getD, set}
 use borrow.Author.Tests.{lt-ltb, le-ltb}
 use Rattle.lists.specs.Lists.{Every, has, include, includeAll}
@@ -15,10 +15,10 @@ use Rattle.lists.proofs.Tests.{by-cond}
 use Rattle.lists.proofs.Parts.{every-getD}
 use Rattle.lists.proofs.Order.{include-known}
 use Rattle.rules.specs.Numbers.{isWord}
-use Rattle.rules.specs.Plain.{Plain, transactionOf, withEntries, owed}
+use Rattle.rules.specs.Plain.{transactionOf, withEntries, owed}
 use Rattle.rules.specs.Words.{decomposed, admissionTerms, admissionFormed, admissionTimed, admissionPlaced}
 use Rattle.rules.specs.Entries.{admitted}
-use Rattle.rules.specs.Index.{pairKey, pairsOf, indexOf, index}
+use Rattle.rules.specs.Index.{pairKey, pairsOf, index}
 use Rattle.rules.specs.Outcome.{Outcome, done, _gives_then_, yesNo}
 use Rattle.rules.specs.Calls.{admission, noRoomFor, admissionRefusal, afterAdmission}
 use Rattle.rules.specs.Good.{Holds, Good}
@@ -31,12 +31,10 @@ use Rattle.store.specs.declared.roster.Roster.{Roster}
 use Rattle.store.specs.declared.issuers.Issuers.{Issuers}
 use Rattle.store.specs.Roster.{keysOf, freeSlot, is, below, Opened}
 use Rattle.store.specs.Issuers as issuers
-use Rattle.store.specs.Issuers.{pairsIn}
 use Rattle.ledger.specs.declared.Ledger.{Ledger}
-use Rattle.ledger.specs.declared.Done.{Done}
 use Rattle.ledger.specs.Contents.{contents, Held}
 use Rattle.ledger.specs.Meets.{Meets}
-use Rattle.ledger.proofs.Lift.{withParts, Became, entries-length, found-at, not-found, taken-in}
+use Rattle.ledger.proofs.Lift.{withParts, entries-length, found-at, not-found, taken-in}
 use Rattle.ledger.proofs.Meeting.{refuses, passes, answers}
 use Rattle.calls.specs.Naming.{Nameable, withPairs}
 use Rattle.calls.specs.Refusals.{wordsRefusal}

@@ -4,3 +4,5 @@ pub mod Departing
 pub mod Named
 pub mod Admitting
 pub mod Resolving
+pub mod Several
+pub mod Listing

@@ -3,3 +3,5 @@ pub mod Terminals
 pub mod Naming
 pub mod Refusals
 pub mod Rulings
+pub mod Leaving
+pub mod Closing

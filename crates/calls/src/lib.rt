@@ -2,7 +2,9 @@
 // the ledger nor the lent list.
 pub mod admission;
 pub mod certificate;
+pub mod closes;
 pub mod finalization;
+pub mod leaving;
 pub mod making;
 pub mod release;
 pub mod settlement;

@@ -1,9 +1,7 @@
 -- `register_committed` meets its contract: the table from the top, then what is owed is skipped, and what is not takes the first
 -- slot that is free.
 -- Assumes nothing.
-use Prim.Native.Nat.{ℕ, _≤_, _<_}
-use mathlib.Core.Path.{_≡_, sym, ap, _∙_}
-use mathlib.Core.List.{List}
+use mathlib.Core.Path.{_≡_, sym, _∙_}
 use native.Mathlib.Omega.{arith}
 use Rattle.lists.specs.Lists.{Every}
 use Rattle.lists.specs.Arrays.{place, rank}
