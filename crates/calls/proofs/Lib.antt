@@ -6,3 +6,5 @@ pub mod Admitting
 pub mod Resolving
 pub mod Several
 pub mod Listing
+pub mod Counting
+pub mod Rebuilding

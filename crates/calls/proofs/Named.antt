@@ -1,7 +1,7 @@
 -- An entry named under its records, from its last edge to its first: what a turn finds room for, puts in and leaves.
 -- Assumes nothing.
 use Prim.Native.Nat.{ℕ, zero, suc, _+_, _-_, _≤_, _<_}
-use mathlib.Core.Path.{_≡_, refl, sym, ap, _∙_}
+use mathlib.Core.Path.{_≡_, sym, ap, _∙_}
 use mathlib.Core.Bool.{Bool, true, false, cond}
 use mathlib.Core.List.{List, [], _∷_, map}
 use native.Mathlib.Omega.{arith}
@@ -13,7 +13,7 @@ use Rattle.rules.specs.Numbers.{recordKey}
 use Rattle.rules.specs.Plain.{Edge}
 use Rattle.rules.specs.Index.{Pair, pairKey}
 use Rattle.entry.specs.declared.Entry.{Entry}
-use Rattle.entry.specs.Entry.{plainEntry, edgesOf, Fits}
+use Rattle.entry.specs.Entry.{plainEntry, edgesOf}
 use Rattle.entry.proofs.Edges.{edges-cons, edges-end}
 use Rattle.store.specs.declared.issuers.Issuers.{Issuers}
 use Rattle.store.specs.Issuers.{Rising, Holds, pair, pairsIn, roomFor}

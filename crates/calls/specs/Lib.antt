@@ -5,3 +5,4 @@ pub mod Refusals
 pub mod Rulings
 pub mod Leaving
 pub mod Closing
+pub mod Abandoned

@@ -7,7 +7,7 @@ use Rattle.rules.specs.Index.{Pair, pairKey, pairsOf}
 use Rattle.entry.specs.declared.Entry.{Entry}
 use Rattle.entry.specs.Entry.{plainEntry, Fits}
 use Rattle.store.specs.declared.issuers.Issuers.{Issuers}
-use Rattle.store.specs.Issuers.{Sound, Rising, Holds, pairsIn}
+use Rattle.store.specs.Issuers.{Sound, Rising, pairsIn}
 
 -- the pairs that stand, and the entry's own put in
 abbrev pub withPairs : ℕ → Entry → Issuers → List Pair

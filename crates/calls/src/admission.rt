@@ -6,7 +6,7 @@ ghost use Rattle.store.specs.Issuers.{Holds};
 ghost use Rattle.ledger.specs.Contents.{Held, contents};
 ghost use Rattle.ledger.specs.Meets.{Meets};
 ghost use Rattle.calls.specs.Naming.{Nameable, withPairs};
-ghost use Rattle.calls.specs.Refusals.{wordsRefusal};
+ghost use Rattle.calls.specs.Refusals.{wordsRefusal, tableRefusal};
 use entry::Entry;
 use ledger::Done;
 use ledger::Ledger;
@@ -17,6 +17,7 @@ use types::record_key;
 use words::admission::admission_formed;
 use words::admission::admission_placed;
 use words::admission::admission_timed;
+use words::admission::admission_transaction;
 use words::taken::admitted;
 
 // The entry named under each record that it issued, from its last edge to its first.
@@ -53,13 +54,31 @@ fn refused_words(words: &[u64]) -> u64
     if admission_placed(words) { 0 } else { 4 }
 }
 
+// The number by which an admission is turned away, 0 for none; found and len are what the roster says of its transaction.
+fn refusal(words: &[u64], found: Found, len: usize) -> u64
+    ensures { λ r. ⌜ r ≡ tableRefusal (now (words .entry)) found len ⌝ }
+{
+    let refused = refused_words(words);
+    if 0 < refused {
+        return refused;
+    }
+    let Found::Nothing = found else {
+        return 0;
+    };
+    if 48 <= len { 6 } else { 0 }
+}
+
 // Takes a transaction in, and answers 1; one that is owed already is skipped and answers 0.
 pub fn register_committed(ledger: Ledger, words: &[u64]) -> Done
     requires { ⌜ Held ledger ⌝ }
     ensures { λ r. ⌜ Meets (afterAdmission (now (words .entry)) (contents ledger)) [] [] r ⌝ }
 {
     let mut l = ledger;
-    let refused = refused_words(words);
+    let roster = l.roster;
+    let len = roster.len;
+    let tx = admission_transaction(words);
+    let found = roster.find(tx);
+    let refused = refusal(words, found, len);
     if 0 < refused {
         return Done {
             refused,
@@ -68,11 +87,7 @@ pub fn register_committed(ledger: Ledger, words: &[u64]) -> Done
             ledger: l,
         };
     }
-    let local = l.local;
-    let e = admitted(words, local);
-    let tx = e.tx;
-    let roster = l.roster;
-    let Found::Nothing = roster.find(tx) else {
+    let Found::Nothing = found else {
         return Done {
             refused: 0,
             answer: 0,
@@ -80,19 +95,10 @@ pub fn register_committed(ledger: Ledger, words: &[u64]) -> Done
             ledger: l,
         };
     };
-    let len = roster.len;
-    if 48 <= len {
-        return Done {
-            refused: 6,
-            answer: 0,
-            fallen: 0,
-            ledger: l,
-        };
-    }
-    let issuers = l.issuers;
+    let e = admitted(words, l.local);
     let slot = roster.slots[len];
     let opened = roster.opened(roster.rank(tx), tx);
-    let named = name_issued(issuers, e, local);
+    let named = name_issued(l.issuers, e, l.local);
     l.roster = opened;
     l.issuers = named;
     l.entries[slot] = e;

@@ -1,5 +1,6 @@
 // The calls that change a ledger. Each takes the ledger and hands it back, answers or refuses by a number, and a refusal changes neither
 // the ledger nor the lent list.
+pub mod abandonment;
 pub mod admission;
 pub mod certificate;
 pub mod closes;

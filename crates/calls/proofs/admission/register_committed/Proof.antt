@@ -1,50 +1,50 @@
 -- `register_committed` meets its contract: the table from the top, then what is owed is skipped, and what is not takes the first
 -- slot that is free.
 -- Assumes nothing.
-use mathlib.Core.Path.{_≡_, sym, _∙_}
+use mathlib.Core.Path.{_≡_, ap, _∙_}
 use native.Mathlib.Omega.{arith}
+use lib.Seq.{length-take-le}
 use Rattle.lists.specs.Lists.{Every}
 use Rattle.lists.specs.Arrays.{place, rank}
-use Rattle.lists.specs.declared.Found.the-variants.{Nothing}
 use Rattle.lists.proofs.Loops.{rank-le}
 use Rattle.rules.specs.Numbers.{isWord}
+use Rattle.rules.specs.Words.{admissionTerms}
 use Rattle.rules.specs.Good.{Holds}
-use lib.Seq.{length-take-le}
 use Rattle.store.specs.Roster.{keysOf, is, below}
 use Rattle.store.proofs.Rosters.{free-slot}
-use Rattle.calls.specs.Refusals.{wordsRefusal}
-use Rattle.calls.proofs.Admitting.{all-words, is-formed, turned-away, skipped, no-room, nameable, admits}
+use Rattle.calls.proofs.Admitting.{all-words, turned-away, is-formed, skipped, is-free, nameable, admits}
 use borrow.Author.Needs.{needs}
 use Rattle.calls.proofs.admission.register_committed.Statement.{statement}
 use Rattle.calls.proofs.admission.register_committed.Tie as tie
 
--- what the words are known to be
-passed : (c : tie.Else1) → wordsRefusal (c .before .before .before .args .words .now) ≡ 0
-passed c = omega (arith, c .before .refused-words .ensures)
-
 are-words : (c : tie.After-shared-slice-known) → Every (Holds isWord) (c .before .args .words .now)
 are-words c = all-words (c .before .args .words .now) (λ i h. omega (arith, c .shared-slice-known .given i))
 
--- the transaction was not found
-new : (c : tie.After-enum-told) →
-    let f = c .before .before in
-    place (is (f .before .before .before .admitted .result .tx .0)) 0 (keysOf (f .before .before .before .before .before .before .before .before .args .ledger .roster)) ≡ Nothing
-new c = sym (c .before .before .find .ensures) ∙ c .enum-told .given .1
+-- what the roster says of the admission's transaction
+says : (c : tie.After-find) →
+    let s = c .before .before .before .before in
+    c .find .result ≡ place (is (admissionTerms (s .args .words .now) .transaction)) 0 (keysOf (s .args .ledger .roster))
+says c =
+    let a = c .before in
+    let s = a .before .before .before in
+    c .find .ensures ∙ ap (λ t. place (is t) 0 (keysOf (s .args .ledger .roster))) (a .admission-transaction .ensures)
 
-refused-words-requires : tie.Need-refused-words-requires
-refused-words-requires c κs = search needs
-
-returns : tie.Need-returns
-returns c =
-    let s = c .before .before .before in
-    turned-away (s .args .ledger) (s .pre) (s .args .words .now) (c .before .refused-words .result) (c .before .refused-words .ensures) (omega arith)
-
-admitted-requires : tie.Need-admitted-requires
-admitted-requires c κs =
-    is-formed (c .before .before .before .before .args .words .now) (passed (c .before))
+admission-transaction-requires : tie.Need-admission-transaction-requires
+admission-transaction-requires c κs = search needs
 
 find-requires : tie.Need-find-requires
 find-requires c κs = search needs
+
+refusal-requires : tie.Need-refusal-requires
+refusal-requires c κs = search needs
+
+returns : tie.Need-returns
+returns c =
+    let r = c .before in
+    let f = r .before in
+    let a = f .before in
+    let s = a .before .before .before in
+    turned-away (s .args .ledger) (s .pre) (s .args .words .now) (f .find .result) (says f) (r .refusal .result) (r .refusal .ensures) (omega arith)
 
 enum-told : tie.Need-enum-told
 enum-told c = search needs
@@ -54,83 +54,108 @@ enum-told-2 c = search needs
 
 returns-2 : tie.Need-returns-2
 returns-2 c =
-    let f = c .before .before in
-    let a = f .before .before .before in
-    let p = a .before .before in
-    let s = p .before .before .before in
-    skipped (s .args .ledger) (s .pre) (s .args .words .now) (a .admitted .result) (a .admitted .ensures) (passed p) (c .enum-told2 .given .0 .0) (sym (f .find .ensures) ∙ c .enum-told2 .given .1)
+    let r = c .before .before .before in
+    let f = r .before in
+    let a = f .before in
+    let s = a .before .before .before in
+    skipped (s .args .ledger) (s .pre) (s .args .words .now) (f .find .result) (says f) (r .refusal .result) (r .refusal .ensures) (omega arith) (c .enum-told2 .given .0 .0) (c .enum-told2 .given .1)
 
-returns-3 : tie.Need-returns-3
-returns-3 c =
-    let f = c .before .before .before in
-    let a = f .before .before .before in
-    let p = a .before .before in
-    let s = p .before .before .before in
-    no-room (s .args .ledger) (s .pre) (s .args .words .now) (a .admitted .result) (a .admitted .ensures) (passed p) (new (c .before)) (omega arith)
+admitted-requires : tie.Need-admitted-requires
+admitted-requires c κs =
+    let n = c .before in
+    let r = n .before .before .before in
+    let f = r .before in
+    let a = f .before in
+    let s = a .before .before .before in
+    is-formed (s .args .ledger) (s .pre) (s .args .words .now) (f .find .result) (says f) (r .refusal .result) (r .refusal .ensures) (omega arith)
 
 mul-slot : tie.Need-mul-slot
 mul-slot c =
-    omega (arith, c .before .before .before .before .before .before .before .before .before .before .before .before .pre .roster .room)
+    let n = c .before .before in
+    let r = n .before .before .before in
+    let f = r .before in
+    let a = f .before in
+    let s = a .before .before .before in
+    omega (arith, is-free (s .args .ledger) (s .pre) (s .args .words .now) (f .find .result) (says f) (r .refusal .result) (r .refusal .ensures) (omega arith) (n .enum-told .given .1))
 
 element-copy-out-slot : tie.Need-element-copy-out-slot
 element-copy-out-slot c =
-    omega arith
+    let n = c .before .before in
+    let r = n .before .before .before in
+    let f = r .before in
+    let a = f .before in
+    let s = a .before .before .before in
+    is-free (s .args .ledger) (s .pre) (s .args .words .now) (f .find .result) (says f) (r .refusal .result) (r .refusal .ensures) (omega arith) (n .enum-told .given .1)
 
 rank-requires : tie.Need-rank-requires
 rank-requires c κs =
-    c .before .before .before .before .before .before .before .before .before .before .before .before .before .pre .roster
+    let r = c .before .before .before .before .before .before in
+    r .before .before .before .before .before .pre .roster
 
 opened-requires : tie.Need-opened-requires
 opened-requires c κs =
-    let s = c .before .before .before .before .before .before .before .before .before .before .before .before .before .before in
-    let t = c .before .before .before .before .before .before .before .before .before .admitted .result .tx .0 in
-    (s .pre .roster, omega (arith, c .rank .ensures, rank-le (below t) (keysOf (s .args .ledger .roster)), length-take-le (s .args .ledger .roster .len) (s .args .ledger .roster .keys) (omega (arith, s .pre .roster .room, s .pre .roster .keyLength))), omega arith)
+    let n = c .before .before .before .before in
+    let r = n .before .before .before in
+    let f = r .before in
+    let a = f .before in
+    let s = a .before .before .before in
+    let k = s .args .ledger .roster in
+    (s .pre .roster, omega (arith, c .rank .ensures, rank-le (below (a .admission-transaction .result .0)) (keysOf (s .args .ledger .roster)), length-take-le (k .len) (k .keys) (omega (arith, s .pre .roster .room, s .pre .roster .keyLength))), is-free (s .args .ledger) (s .pre) (s .args .words .now) (f .find .result) (says f) (r .refusal .result) (r .refusal .ensures) (omega arith) (n .enum-told .given .1))
 
 name-issued-requires : tie.Need-name-issued-requires
 name-issued-requires c κs =
-    let i = c .before .before .before in
-    let n = i .before .before in
-    let f = n .before .before in
-    let a = f .before .before .before in
-    let p = a .before .before in
-    let s = p .before .before .before in
-    nameable (s .args .ledger) (s .pre) (s .args .words .now) (a .admitted .result) (a .admitted .ensures) (passed p) (new n) (omega arith) (are-words (p .before .before))
+    let x = c .before .before .before .before .before in
+    let n = x .before .before in
+    let r = n .before .before .before in
+    let f = r .before in
+    let a = f .before in
+    let s = a .before .before .before in
+    nameable (s .args .ledger) (s .pre) (s .args .words .now) (f .find .result) (says f) (r .refusal .result) (r .refusal .ensures) (omega arith) (n .enum-told .given .1) (x .admitted .result) (x .admitted .ensures) (are-words (a .before .before))
 
 mul-e : tie.Need-mul-e
 mul-e c =
-    let s = c .before .before .before .before .before .before .before .before .before .before .before .before .before .before .before .before in
-    omega (arith, free-slot (s .args .ledger .roster) (s .pre .roster) (omega arith) .0)
+    let n = c .before .before .before .before .before .before .before .before in
+    let r = n .before .before .before in
+    let f = r .before in
+    let a = f .before in
+    let s = a .before .before .before in
+    omega (arith, free-slot (s .args .ledger .roster) (s .pre .roster) (is-free (s .args .ledger) (s .pre) (s .args .words .now) (f .find .result) (says f) (r .refusal .result) (r .refusal .ensures) (omega arith) (n .enum-told .given .1)) .0)
 
 element-set-from-e : tie.Need-element-set-from-e
 element-set-from-e c =
-    let s = c .before .before .before .before .before .before .before .before .before .before .before .before .before .before .before .before in
-    free-slot (s .args .ledger .roster) (s .pre .roster) (omega arith) .0
+    let n = c .before .before .before .before .before .before .before .before in
+    let r = n .before .before .before in
+    let f = r .before in
+    let a = f .before in
+    let s = a .before .before .before in
+    free-slot (s .args .ledger .roster) (s .pre .roster) (is-free (s .args .ledger) (s .pre) (s .args .words .now) (f .find .result) (says f) (r .refusal .result) (r .refusal .ensures) (omega arith) (n .enum-told .given .1)) .0
 
-returns-4 : tie.Need-returns-4
-returns-4 c =
-    let o = c .before in
-    let r = o .before in
-    let i = r .before .before in
-    let n = i .before .before in
-    let f = n .before .before in
-    let a = f .before .before .before in
-    let p = a .before .before in
-    let s = p .before .before .before in
-    admits (s .args .ledger) (s .pre) (s .args .words .now) (a .admitted .result) (a .admitted .ensures) (passed p) (new n) (omega arith) (are-words (p .before .before)) (r .rank .result) (r .rank .ensures)
-    (o .opened .result) (o .opened .ensures) (c .name-issued .result) (c .name-issued .ensures)
+returns-3 : tie.Need-returns-3
+returns-3 c =
+    let b = c .before .before .before in
+    let k = b .before in
+    let x = k .before .before in
+    let n = x .before .before in
+    let r = n .before .before .before in
+    let f = r .before in
+    let a = f .before in
+    let s = a .before .before .before in
+    let t = a .admission-transaction .ensures in
+    admits (s .args .ledger) (s .pre) (s .args .words .now) (f .find .result) (says f) (r .refusal .result) (r .refusal .ensures) (omega arith) (n .enum-told .given .1) (x .admitted .result) (x .admitted .ensures) (are-words (a .before .before))
+    (k .rank .result) (k .rank .ensures ∙ ap (λ t. rank (below t) (keysOf (s .args .ledger .roster))) t) (b .opened .result) (rw t at (b .opened .ensures)) (c .name-issued .result) (c .name-issued .ensures)
 
 pub register-committed-spec : {M : Type 1} → statement M
 register-committed-spec =
     tie.close
     (tie.spec
-    refused-words-requires
-    returns
-    admitted-requires
+    admission-transaction-requires
     find-requires
+    refusal-requires
+    returns
     enum-told
     enum-told-2
     returns-2
-    returns-3
+    admitted-requires
     mul-slot
     element-copy-out-slot
     rank-requires
@@ -138,4 +163,4 @@ register-committed-spec =
     name-issued-requires
     mul-e
     element-set-from-e
-    returns-4)
+    returns-3)
