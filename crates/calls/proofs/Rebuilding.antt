@@ -4,7 +4,7 @@
 use Prim.Native.Nat.{ℕ, zero, suc, _+_, _-_, _*_, _^_, _≤_, _<_, min}
 use mathlib.Core.Path.{_≡_, refl, sym, ap, ap₂, _∙_, subst}
 use mathlib.Core.Bool.{Bool, true, false, cond, not}
-use mathlib.Core.List.{List, [], _∷_, map}
+use mathlib.Core.List.{List, [], _∷_}
 use native.Mathlib.Omega.{arith}
 use lib.Dec.{ltb}
 use lib.ListN.{length, drop, getD, set, length-map}
@@ -25,7 +25,7 @@ use Rattle.rules.specs.Plain.{Plain, Terms, transactionOf, withEntries, withReb
 use Rattle.rules.specs.Words.{word, groupCount, recordShard, reachSizes, recordGroups, recordFormed, recordTimed}
 use Rattle.rules.specs.Entries.{rebuilt, withNaming, withGroup, withGroups, rebuiltBy}
 use Rattle.rules.specs.Index.{index}
-use Rattle.rules.specs.Outcome.{done, _gives_then_}
+use Rattle.rules.specs.Outcome.{_gives_then_}
 use Rattle.rules.specs.Calls.{unowed, noRoomFor, abandonmentRefusal, afterAbandonment}
 use Rattle.rules.specs.Good.{Good, GoodEntry, Holds, isNaming}
 use Rattle.rules.proofs.Taken.{GoodGroup, groups-good, rebuilt-good}

@@ -1,26 +1,24 @@
 -- Finalization, line by line: what is still to come does to the ledger in hand what all lines do to the one handed in. Each line
 -- skips, turns or releases as the rule on its entry says.
 -- Assumes nothing.
-use Prim.Native.Nat.{ℕ, zero, suc, _+_, _≤_, _<_}
+use Prim.Native.Nat.{ℕ, _+_, _≤_, _<_}
 use mathlib.Core.Path.{_≡_, refl, sym, ap, _∙_}
-use mathlib.Core.Bool.{Bool, true, false, cond, not, _&&_, true≢false, false≢true}
+use mathlib.Core.Bool.{Bool, true, false, cond, not, _&&_, false≢true}
 use mathlib.Core.List.{List, [], _∷_}
-use mathlib.Core.Option.{Option, none, some}
+use mathlib.Core.Option.{none, some}
 use native.Mathlib.Omega.{arith}
 use lib.Dec.{eqb}
-use lib.ListN.{length, drop, getD, set}
-use borrow.Author.Tests.{eq-eqb}
-use Rattle.lists.specs.Lists.{keep, has, get, without, change, self}
+use lib.ListN.{drop, getD, set}
+use Rattle.lists.specs.Lists.{keep, has, get, change, self}
 use Rattle.lists.specs.Arrays.{place}
 use Rattle.lists.specs.declared.Found.the-variants.{At, Nothing}
 use Rattle.lists.proofs.Cuts.{rest-none}
-use Rattle.lists.proofs.Tests.{and-left, and-right}
+use Rattle.lists.proofs.Tests.{and-left}
 use Rattle.rules.specs.Plain as plain
 use Rattle.rules.specs.Plain.{Plain, transactionOf, withEntries, isCore, isSettling, owes, remainder}
 use Rattle.rules.specs.Words.{Line, word, lineCount, finalizationFormed, finalizationLines, deciding}
 use Rattle.rules.specs.Entries.{Ruling, skip, turn, release, rulingOn, ruling, ruled, isRelease, withLines, releasedBy, withPart}
 use Rattle.rules.specs.Calls.{forget, finalization, afterForget, finalizationRefusal, afterFinalization}
-use Rattle.rules.specs.Outcome.{done}
 use Rattle.rules.specs.Good.{Good}
 use Rattle.rules.proofs.Kept.{step-good}
 use Rattle.entry.specs.declared.Entry.{Entry}
@@ -30,9 +28,8 @@ use Rattle.store.specs.declared.issuers.Issuers.{Issuers}
 use Rattle.store.specs.Roster.{keysOf, is, Closed}
 use Rattle.store.specs.Issuers as issuers
 use Rattle.store.specs.Issuers.{isNot, pairsIn}
-use Rattle.words.proofs.Lines.{lineOf, lineAt, finalized, lines-length, line-at}
+use Rattle.words.proofs.Lines.{lineOf, lineAt, lines-length, line-at}
 use Rattle.ledger.specs.declared.Ledger.{Ledger}
-use Rattle.ledger.specs.declared.Done.{Done}
 use Rattle.ledger.specs.Contents.{contents, Held}
 use Rattle.ledger.specs.Meets.{Meets}
 use Rattle.ledger.proofs.Lift.{withParts, Became, found-at, not-found, changed, let-go}

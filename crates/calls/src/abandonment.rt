@@ -119,9 +119,7 @@ fn bring_back(ledger: Ledger, words: &[u64]) -> Done
             Found::Nothing => {
                 let end = roster.len;
                 let slot = roster.slots[end];
-                let k = roster.rank(tx);
-                let more = roster.opened(k, tx);
-                l.roster = more;
+                l.roster = roster.opened(roster.rank(tx), tx);
                 l.entries[slot] = e;
                 rebuilt += 1;
             }

@@ -38,13 +38,11 @@ fn decide(code: u64, is_open: bool, is_owing: bool) -> Ruling
         return Ruling::Skip;
     }
     match code {
-        1 => {
-            if is_owing {
-                Ruling::Turn
-            } else {
-                Ruling::Release
-            }
-        }
+        1 => if is_owing {
+            Ruling::Turn
+        } else {
+            Ruling::Release
+        },
         2..=3 => Ruling::Release,
         0 | 4..=0xffff_ffff_ffff_ffff => Ruling::Release,
     }
@@ -88,20 +86,12 @@ fn rule(words: &[u64], tx: Transaction, code: u64, e: Entry, local: Shard) -> Ru
     decide(code, open, owing)
 }
 
-// Line by line, skips, turns to remainder or releases the entry that the line names, and answers how many were released.
-pub fn release_resolved(ledger: Ledger, words: &[u64]) -> Done
-    requires { ⌜ Held ledger ⌝ }
+// Line by line, skips, turns to remainder or releases the entry that the line names.
+fn resolve(ledger: Ledger, words: &[u64]) -> Done
+    requires { ⌜ Held ledger × (finalizationFormed (now words) ≡ true) ⌝ }
     ensures { λ r. ⌜ Meets (afterFinalization (now (words .entry)) (contents ledger)) [] [] r ⌝ }
 {
     let mut l = ledger;
-    if !finalization_formed(words) {
-        return Done {
-            refused: 5,
-            answer: 0,
-            fallen: 0,
-            ledger: l,
-        };
-    }
     let n = size_at(words, 0);
     let mut released: u64 = 0;
     let mut i: usize = 0;
@@ -122,10 +112,8 @@ pub fn release_resolved(ledger: Ledger, words: &[u64]) -> Done
             }
             Ruling::Release => {
                 let issuers = l.issuers;
-                let left = roster.closed(k);
-                let unnamed = issuers.without(tx);
-                l.roster = left;
-                l.issuers = unnamed;
+                l.roster = roster.closed(k);
+                l.issuers = issuers.without(tx);
                 released += 1;
             }
         }
@@ -136,4 +124,20 @@ pub fn release_resolved(ledger: Ledger, words: &[u64]) -> Done
         fallen: 0,
         ledger: l,
     }
+}
+
+// Resolves what the lines decide, and answers how many entries were released.
+pub fn release_resolved(ledger: Ledger, words: &[u64]) -> Done
+    requires { ⌜ Held ledger ⌝ }
+    ensures { λ r. ⌜ Meets (afterFinalization (now (words .entry)) (contents ledger)) [] [] r ⌝ }
+{
+    if !finalization_formed(words) {
+        return Done {
+            refused: 5,
+            answer: 0,
+            fallen: 0,
+            ledger,
+        };
+    }
+    resolve(ledger, words)
 }

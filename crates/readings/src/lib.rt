@@ -1,5 +1,7 @@
 // Everything that is read off a ledger: lists written into a lent list, and lookups. None changes the ledger, which is handed in by value and
 // stays the caller's.
+pub mod entries;
+pub mod lookups;
 pub mod set;
 pub mod shards;
 

@@ -118,8 +118,8 @@ element-copy-out-old c = there (c .before .before) .slot
 with-naming-requires : tie.Need-with-naming-requires Inv-loop μ-loop
 with-naming-requires c κs = there (c .before .before .before) .fits _
 
-mul-t30 : tie.Need-mul-t30 Inv-loop μ-loop
-mul-t30 c = omega (arith, there (c .before .before .before .before) .slot)
+mul-t28 : tie.Need-mul-t28 Inv-loop μ-loop
+mul-t28 c = omega (arith, there (c .before .before .before .before) .slot)
 
 element-set-from-l : tie.Need-element-set-from-l Inv-loop μ-loop
 element-set-from-l c = there (c .before .before .before .before) .slot
@@ -211,7 +211,7 @@ bring-back-spec =
     mul-old
     element-copy-out-old
     with-naming-requires
-    mul-t30
+    mul-t28
     element-set-from-l
     loop-less
     loop-again

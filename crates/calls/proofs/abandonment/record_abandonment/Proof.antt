@@ -3,7 +3,6 @@
 use mathlib.Core.Path.{_≡_, sym, _∙_}
 use native.Mathlib.Omega.{arith}
 use Rattle.calls.proofs.Rebuilding.{refuses-by, by-keys}
-use borrow.Author.Needs.{needs}
 use Rattle.calls.proofs.abandonment.record_abandonment.Statement.{statement}
 use Rattle.calls.proofs.abandonment.record_abandonment.Tie as tie
 

@@ -3,7 +3,6 @@
 use lib.Dec.{eqb}
 use borrow.Author.Tests.{eq-eqb, ne-eqb}
 use Rattle.lists.proofs.Tests.{and-false}
-use borrow.Author.Needs.{needs}
 use Rattle.calls.proofs.finalization.decide.Statement.{statement}
 use Rattle.calls.proofs.finalization.decide.Tie as tie
 

@@ -1,0 +1,72 @@
+-- A name is above 0; it is read where the entry lies.
+-- Assumes nothing.
+use mathlib.Core.Path.{_≡_, refl, sym, ap, _∙_}
+use native.Mathlib.Omega.{arith}
+use Rattle.rules.specs.Plain.{isNamed}
+use Rattle.entry.specs.Entry.{plainEntry}
+use Rattle.ledger.proofs.Lift.{AtSlot, found-at, not-found}
+use Rattle.readings.proofs.Looked.{answered, unanswered}
+use borrow.Author.Needs.{needs}
+use Rattle.readings.proofs.lookups.departed.Statement.{statement}
+use Rattle.readings.proofs.lookups.departed.Tie as tie
+
+find-requires : tie.Need-find-requires
+find-requires c κs = search needs
+
+enum-known-k : tie.Need-enum-known-k
+enum-known-k c = search needs
+
+enum-told : tie.Need-enum-told
+enum-told c = search needs
+
+said-requires : tie.Need-said-requires
+said-requires c κs = search needs
+
+returns : tie.Need-returns
+returns c =
+    let s = c .before .before .before .before .before in
+    let f = c .before .before .before in
+    unanswered isNamed (s .args .t1) (s .args .tx .0) _ (not-found (s .args .t1) (s .pre) (s .args .tx .0) (sym (f .find .ensures) ∙ c .before .enum-told .given .1)) (c .said .ensures)
+
+there : (c : tie.After-k) → AtSlot (c .before .before .before .before .args .t1) (c .before .before .before .before .args .tx .0) (c .k .given .0 .0)
+there c =
+    let s = c .before .before .before .before in
+    found-at (s .args .t1) (s .pre) (s .args .tx .0) (c .k .given .0 .0) (sym (c .before .before .find .ensures) ∙ c .k .given .1)
+
+mul-slot : tie.Need-mul-slot
+mul-slot c = omega (arith, there (c .before) .place, c .before .before .before .before .before .pre .roster .room)
+
+element-copy-out-slot : tie.Need-element-copy-out-slot
+element-copy-out-slot c = omega (arith, there (c .before) .place, c .before .before .before .before .before .pre .roster .room)
+
+mul-said : tie.Need-mul-said
+mul-said c = omega (arith, there (c .before .before) .slot)
+
+element-copy-out-said : tie.Need-element-copy-out-said
+element-copy-out-said c = there (c .before .before) .slot
+
+said-requires-2 : tie.Need-said-requires-2
+said-requires-2 c κs = search needs
+
+returns-2 : tie.Need-returns-2
+unfolding plainEntry
+returns-2 c =
+    let k = c .before .before .before in
+    let s = k .before .before .before .before in
+    answered isNamed (s .args .t1) (s .args .tx .0) (k .k .given .0 .0) _ _ _ (there k) (c .said2 .ensures) refl
+
+pub departed-spec : {M : Type 1} → statement M
+departed-spec =
+    tie.close
+    (tie.spec
+    find-requires
+    enum-known-k
+    enum-told
+    said-requires
+    returns
+    mul-slot
+    element-copy-out-slot
+    mul-said
+    element-copy-out-said
+    said-requires-2
+    returns-2)

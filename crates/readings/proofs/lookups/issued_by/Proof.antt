@@ -1,0 +1,22 @@
+-- The index holds the pairs that the entries give.
+-- Assumes nothing.
+use mathlib.Core.Path.{ap, _∙_}
+use Rattle.rules.specs.Index.{names}
+use Rattle.readings.proofs.Looked.{says}
+use borrow.Author.Needs.{needs}
+use Rattle.readings.proofs.lookups.issued_by.Statement.{statement}
+use Rattle.readings.proofs.lookups.issued_by.Tie as tie
+
+names-requires : tie.Need-names-requires
+names-requires c κs = search needs
+
+said-requires : tie.Need-said-requires
+said-requires c κs = search needs
+
+returns : tie.Need-returns
+returns c =
+    let s = c .before .before in
+    says _ _ _ _ (c .said .ensures) (c .before .names .ensures ∙ ap (λ l. names l (s .args .r .0) (s .args .tx .0)) (s .pre .issuers .pairs))
+
+pub issued-by-spec : {M : Type 1} → statement M
+issued-by-spec = tie.close (tie.spec names-requires said-requires returns)

@@ -1,0 +1,258 @@
+// Lookups: each answers a number or yes (1) or no (0), and no for a transaction that is not owed.
+ghost use mathlib.Core.Path.{_≡_};
+ghost use mathlib.Core.Bool.{true, not, _&&_};
+ghost use mathlib.Core.List.{[]};
+ghost use lib.Dec.{eqb, ltb, leb};
+ghost use Prim.Native.Nat.{_+_, _<_, _^_};
+ghost use Rattle.lists.specs.Lists.{filled};
+ghost use Rattle.rules.specs.Numbers.{isTime, isShard};
+ghost use Rattle.rules.specs.Plain.{isCore, remote};
+ghost use Rattle.rules.specs.Readings.{read, openAt, answers, abandonment, covered, departed, executed, reachesBeyond, issuedBy, local, rebuilt, question, questionRefusal};
+ghost use Rattle.entry.specs.Entry.{plainEntry, plainPart, Fits};
+ghost use Rattle.ledger.specs.Contents.{contents, Held};
+ghost use Rattle.readings.specs.Reads.{Reads};
+ghost use Rattle.readings.specs.Answers.{Tells, Says, Refuses};
+use crate::Told;
+use entry::Entry;
+use entry::Part;
+use ledger::Ledger;
+use lists::Found;
+use types::RecordKey;
+use types::Shard;
+use types::Time;
+use types::Transaction;
+
+pub fn told(n: u64) -> Told
+    ensures { λ r. ⌜ Tells n r ⌝ }
+{
+    Told {
+        refused: 0,
+        answer: n,
+    }
+}
+
+pub fn said(yes: bool) -> Told
+    ensures { λ r. ⌜ Says yes r ⌝ }
+{
+    if yes { told(1) } else { told(0) }
+}
+
+pub fn refusal(n: u64) -> Told
+    ensures { λ r. ⌜ Refuses n r ⌝ }
+{
+    Told {
+        refused: n,
+        answer: 0,
+    }
+}
+
+// A core without a certificate by execution, which no record names.
+fn is_abandonable(part: Part, certified: u8, naming: Shard) -> bool
+    ensures { λ r. ⌜ r ≡ isCore (plainPart part) && ltb certified 2 && not (ltb 0 (naming .0)) ⌝ }
+{
+    if !part.is_core() {
+        return false;
+    }
+    if certified >= 2 {
+        return false;
+    }
+    naming.0 == 0
+}
+
+// Whether local does not own some route of the entry.
+fn is_beyond(e: Entry, local: Shard) -> bool
+    requires { ⌜ Fits e × (isShard (local .0) ≡ true) ⌝ }
+    ensures { λ r. ⌜ r ≡ filled (remote (local .0) (plainEntry e .terms)) ⌝ }
+{
+    let n = e.routes_len as usize;
+    let mut i: usize = 0;
+    while i < n {
+        if !local.owns(e.routes[i]) {
+            return true;
+        }
+        i += 1;
+    }
+    false
+}
+
+// Whether the entry may be abandoned.
+pub fn abandonment_answers(ledger: Ledger, tx: Transaction) -> Told
+    requires { ⌜ Held ledger ⌝ }
+    ensures { λ r. ⌜ Reads (read (abandonment (tx .0)) (contents ledger)) [] [] r ⌝ }
+{
+    let roster = ledger.roster;
+    let Found::At(k) = roster.find(tx) else {
+        return said(false);
+    };
+    let slot = roster.slots[k];
+    let e = ledger.entries[slot];
+    let part = e.part;
+    said(is_abandonable(part, e.certified, e.naming))
+}
+
+// Whether a record names the entry or it has an absence.
+pub fn is_covered(ledger: Ledger, tx: Transaction) -> Told
+    requires { ⌜ Held ledger ⌝ }
+    ensures { λ r. ⌜ Reads (read (covered (tx .0)) (contents ledger)) [] [] r ⌝ }
+{
+    let roster = ledger.roster;
+    let Found::At(k) = roster.find(tx) else {
+        return said(false);
+    };
+    let slot = roster.slots[k];
+    let e = ledger.entries[slot];
+    said(e.covered())
+}
+
+// Whether a record names the entry.
+pub fn departed(ledger: Ledger, tx: Transaction) -> Told
+    requires { ⌜ Held ledger ⌝ }
+    ensures { λ r. ⌜ Reads (read (departed (tx .0)) (contents ledger)) [] [] r ⌝ }
+{
+    let roster = ledger.roster;
+    let Found::At(k) = roster.find(tx) else {
+        return said(false);
+    };
+    let slot = roster.slots[k];
+    said(ledger.entries[slot].naming.0 > 0)
+}
+
+// Whether the entry's certificate is by execution.
+pub fn executed(ledger: Ledger, tx: Transaction) -> Told
+    requires { ⌜ Held ledger ⌝ }
+    ensures { λ r. ⌜ Reads (read (executed (tx .0)) (contents ledger)) [] [] r ⌝ }
+{
+    let roster = ledger.roster;
+    let Found::At(k) = roster.find(tx) else {
+        return said(false);
+    };
+    let slot = roster.slots[k];
+    said(ledger.entries[slot].certified == 2)
+}
+
+// Whether local does not own some route of the entry.
+pub fn reaches_beyond(ledger: Ledger, tx: Transaction) -> Told
+    requires { ⌜ Held ledger ⌝ }
+    ensures { λ r. ⌜ Reads (read (reachesBeyond (tx .0)) (contents ledger)) [] [] r ⌝ }
+{
+    let roster = ledger.roster;
+    let Found::At(k) = roster.find(tx) else {
+        return said(false);
+    };
+    let slot = roster.slots[k];
+    let e = ledger.entries[slot];
+    said(is_beyond(e, ledger.local))
+}
+
+// Whether the index names the transaction under the record.
+pub fn issued_by(ledger: Ledger, r: RecordKey, tx: Transaction) -> Told
+    requires { ⌜ Held ledger ⌝ }
+    ensures { λ x. ⌜ Reads (read (issuedBy (r .0) (tx .0)) (contents ledger)) [] [] x ⌝ }
+{
+    said(ledger.issuers.names(r, tx))
+}
+
+pub fn local(ledger: Ledger) -> Told
+    requires { ⌜ Held ledger ⌝ }
+    ensures { λ r. ⌜ Reads (read local (contents ledger)) [] [] r ⌝ }
+{
+    told(ledger.local.0)
+}
+
+// The running count of rebuilt entries.
+pub fn rebuilt(ledger: Ledger) -> Told
+    requires { ⌜ Held ledger ⌝ }
+    ensures { λ r. ⌜ Reads (read rebuilt (contents ledger)) [] [] r ⌝ }
+{
+    told(ledger.rebuilt)
+}
+
+fn are_times(at: Time, end: Time, time: Time) -> bool
+    ensures { λ r. ⌜ r ≡ isTime (at .0) && isTime (end .0) && isTime (time .0) ⌝ }
+{
+    if !types::is_time(at.0) {
+        return false;
+    }
+    if !types::is_time(end.0) {
+        return false;
+    }
+    types::is_time(time.0)
+}
+
+// What the table gives of a question's numbers, 0 for none.
+fn question_refusal(shard: Shard, at: Time, end: Time, time: Time) -> u64
+    ensures { λ r. ⌜ r ≡ questionRefusal (question 0 (shard .0) 0 (at .0) (end .0)) (time .0) ⌝ }
+{
+    if !are_times(at, end, time) {
+        return 3;
+    }
+    if !types::is_shard(shard.0) {
+        return 4;
+    }
+    0
+}
+
+// Whether a question is open: once its at has passed. It asks nothing of the ledger.
+pub fn open_at(
+    ledger: Ledger,
+    tx: Transaction,
+    shard: Shard,
+    key: u64,
+    at: Time,
+    end: Time,
+    time: Time,
+) -> Told
+    requires { ⌜ Held ledger ⌝ }
+    ensures { λ r. ⌜ Reads (read (openAt (tx .0) (shard .0) key (at .0) (end .0) (time .0)) (contents ledger)) [] [] r ⌝ }
+{
+    let no = question_refusal(shard, at, end, time);
+    if no > 0 {
+        return refusal(no);
+    }
+    said(at.passed(time))
+}
+
+// Read absent, in the window [at, at + span).
+fn is_absent(at: Time, span: u64, read_at: Time, inclusion: u64) -> bool
+    requires { ⌜ (at .0 < 2 ^ 48) × (span < 2 ^ 48) ⌝ }
+    ensures { λ r. ⌜ r ≡ eqb inclusion 0 && (leb (at .0) («read_at» .0) && ltb («read_at» .0) (at .0 + span)) ⌝ }
+{
+    if inclusion > 0 {
+        return false;
+    }
+    if read_at.0 < at.0 {
+        return false;
+    }
+    read_at.0 < at.0 + span
+}
+
+// Whether what was read (0 absent, 1 present) answers the question: absent, in its own window, its transaction owed.
+pub fn answers(
+    ledger: Ledger,
+    tx: Transaction,
+    shard: Shard,
+    key: u64,
+    at: Time,
+    end: Time,
+    read_at: Time,
+    inclusion: u64,
+) -> Told
+    requires { ⌜ Held ledger ⌝ }
+    ensures { λ r. ⌜ Reads (read (answers (tx .0) (shard .0) key (at .0) (end .0) («read_at» .0) inclusion) (contents ledger)) [] [] r ⌝ }
+{
+    if inclusion > 1 {
+        return refusal(5);
+    }
+    let no = question_refusal(shard, at, end, read_at);
+    if no > 0 {
+        return refusal(no);
+    }
+    if !is_absent(at, ledger.core_span, read_at, inclusion) {
+        return said(false);
+    }
+    let roster = ledger.roster;
+    let Found::Nothing = roster.find(tx) else {
+        return said(true);
+    };
+    said(false)
+}
