@@ -1,0 +1,54 @@
+// Runs call scripts: reads a script on standard input, makes its calls on the ledger, and writes a line of answer for each.
+mod changing;
+mod dump;
+mod entries;
+mod performing;
+mod reading;
+mod replies;
+
+use calls::making;
+use performing::NO_CALL;
+use script::calls::REPEAT;
+use script::calls::SKIP;
+use types::Shard;
+
+// Line by line to the end of the script, or to a line that is malformed or names a call that is not there. `times` is 0 unless
+// a `repeat` waits for its call. No script has 2^64 lines.
+fn main() {
+    let mut input = [0u8; 65536];
+    let mut output = [0u8; 65536];
+    let mut numbers = [0u64; 2048];
+    let mut lent = [0u64; 4096];
+    let made = making::new(Shard(0), 0, 0, 0);
+    let mut ledger = made.ledger;
+    let mut lines = script::begin();
+    let mut out = script::no_text();
+    let mut times: u64 = 0;
+    let mut at: u64 = 0;
+    while at < 0xffff_ffff_ffff_ffff {
+        lines = script::next_line(&mut input, lines);
+        if lines.found == script::AT_END {
+            script::flush(&output, out);
+            return;
+        }
+        at += 1;
+        let line = script::parse(&input, lines, &mut numbers);
+        let code = line.code;
+        if code == SKIP {
+            continue;
+        }
+        if code == REPEAT && times == 0 {
+            times = numbers[0];
+            continue;
+        }
+        let done = performing::perform(ledger, line, &numbers, &mut lent, times);
+        if done.refused == NO_CALL {
+            replies::stop(&mut output, out, at);
+            return;
+        }
+        out = replies::put_reply(&mut output, out, line, done, &lent);
+        ledger = done.ledger;
+        times = 0;
+    }
+    script::flush(&output, out);
+}

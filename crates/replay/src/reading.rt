@@ -1,0 +1,68 @@
+// The readings by their codes: an arm for each. What `dump` says is written by the reply.
+ghost use Rattle.ledger.specs.Contents.{Held};
+use crate::performing::NO_CALL;
+use ledger::Ledger;
+use readings::Told;
+use readings::entries;
+use readings::lookups;
+use readings::shards;
+use script::calls as codes;
+use types::RecordKey;
+use types::Shard;
+use types::Time;
+use types::Transaction;
+
+// A reading that is lent a list; the others are lookups.
+pub fn ask(ledger: Ledger, code: u8, numbers: &[u64; 2048], lent: &mut [u64]) -> Told
+    requires { ⌜ Held ledger ⌝ }
+{
+    let w = numbers[0];
+    let tx = Transaction(w);
+    let w1 = numbers[1];
+    match code {
+        codes::QUESTIONS => entries::questions(ledger, lent),
+        codes::PAST_DEADLINE => entries::past_deadline(ledger, Time(w), lent),
+        codes::ISSUERS_OF => entries::issuers_of(ledger, w, lent),
+        codes::CLAIMANTS => shards::claimants(ledger, tx, RecordKey(w1), lent),
+        codes::COUNTERPARTS => shards::counterparts(ledger, tx, w1, lent),
+        codes::UNSTAMPED_DEPARTURES => shards::unstamped_departures(ledger, lent),
+        codes::REACH => shards::reach(ledger, tx, lent),
+        _ => look_up(ledger, code, numbers),
+    }
+}
+
+fn look_up(ledger: Ledger, code: u8, numbers: &[u64; 2048]) -> Told
+    requires { ⌜ Held ledger ⌝ }
+{
+    let w = numbers[0];
+    let tx = Transaction(w);
+    match code {
+        codes::OPEN_AT | codes::ANSWERS => put_question(ledger, code, numbers),
+        codes::ABANDONMENT_ANSWERS => lookups::abandonment_answers(ledger, tx),
+        codes::IS_COVERED => lookups::is_covered(ledger, tx),
+        codes::DEPARTED => lookups::departed(ledger, tx),
+        codes::EXECUTED => lookups::executed(ledger, tx),
+        codes::REACHES_BEYOND => lookups::reaches_beyond(ledger, tx),
+        codes::ISSUED_BY => lookups::issued_by(ledger, RecordKey(w), Transaction(numbers[1])),
+        codes::LOCAL => lookups::local(ledger),
+        codes::REBUILT => lookups::rebuilt(ledger),
+        codes::DUMP => lookups::told(0),
+        _ => lookups::refusal(NO_CALL),
+    }
+}
+
+// A question as it is handed in: transaction, shard, key, at, end; then the clock, or when the cell was read and what was found.
+fn put_question(ledger: Ledger, code: u8, numbers: &[u64; 2048]) -> Told
+    requires { ⌜ Held ledger ⌝ }
+{
+    let tx = Transaction(numbers[0]);
+    let shard = Shard(numbers[1]);
+    let key = numbers[2];
+    let at = Time(numbers[3]);
+    let end = Time(numbers[4]);
+    let clock = Time(numbers[5]);
+    if code == codes::OPEN_AT {
+        return lookups::open_at(ledger, tx, shard, key, at, end, clock);
+    }
+    lookups::answers(ledger, tx, shard, key, at, end, clock, numbers[6])
+}
