@@ -8,3 +8,5 @@ pub mod Several
 pub mod Listing
 pub mod Counting
 pub mod Rebuilding
+pub mod Pruning
+pub mod Reporting

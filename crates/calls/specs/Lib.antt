@@ -6,3 +6,4 @@ pub mod Rulings
 pub mod Leaving
 pub mod Closing
 pub mod Abandoned
+pub mod Pruning

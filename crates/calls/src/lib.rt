@@ -7,6 +7,7 @@ pub mod closes;
 pub mod finalization;
 pub mod leaving;
 pub mod making;
+pub mod prune;
 pub mod release;
 pub mod settlement;
 pub mod terminal;

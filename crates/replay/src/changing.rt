@@ -8,6 +8,7 @@ use calls::certificate;
 use calls::closes;
 use calls::finalization;
 use calls::making;
+use calls::prune;
 use calls::release;
 use calls::settlement;
 use calls::terminal;
@@ -47,6 +48,7 @@ pub fn apply(
         codes::RELEASE_RESOLVED => finalization::release_resolved(ledger, &all[0..count]),
         codes::FORGET => release::forget(ledger, Transaction(w0)),
         codes::RECORD_TERMINAL => departed(ledger, w0, w1, w2, w3),
+        codes::PRUNE => prune::prune(ledger, Time(w0), lent),
         codes::STAMP_TERMINAL => terminal::stamp_terminal(ledger, Shard(w0), Time(w1)),
         _ => Done {
             refused: NO_CALL,

@@ -1,0 +1,4 @@
+pub mod Decoding
+pub mod Clocks
+pub mod Pruning
+pub mod Claimed
