@@ -8,7 +8,7 @@ use hyperscale_types::{
 };
 
 use crate::book::{Book, write};
-use crate::ledger::{Certified, inside};
+use crate::ledger::{Certified, Ledger, inside};
 use crate::refusals::{
     ABSENCES, ABSENCES_FULL, BAD_WORDS, DEPARTURES, DEPARTURES_FULL, ENTRIES, ENTRIES_FULL,
     at_most, shards, times, unless,
@@ -91,16 +91,28 @@ pub fn returned(book: &mut Book, given: Given) -> Answered {
     Ok(())
 }
 
+/// A copy of the ledger, where a list with room for so many items may turn out too short. Elsewhere none is made, so that a timed
+/// call costs what the Rust's own does.
+fn spare(book: &Book, room: usize) -> Option<Ledger> {
+    (room < book.ledger.len()).then(|| inside::copy(&book.ledger))
+}
+
+fn put_back(book: &mut Book, before: Option<Ledger>) {
+    if let Some(ledger) = before {
+        book.ledger = ledger;
+    }
+}
+
 /// The Rust refuses no list, so it runs on and a list too short puts the copy back.
 pub fn closes(book: &mut Book, given: Given) -> Answered {
-    let before = inside::copy(&book.ledger);
+    let before = spare(book, given.lent.len() / 2);
     let closed: Vec<[u64; 2]> = book
         .ledger
         .closes()
         .into_iter()
         .map(|(tx_hash, resolution)| [tx_hash.0, code(resolution)])
         .collect();
-    let written = write(&closed, given.lent).inspect_err(|_| book.ledger = before)?;
+    let written = write(&closed, given.lent).inspect_err(|_| put_back(book, before))?;
     given.say(written)
 }
 
@@ -160,7 +172,8 @@ pub fn stamp_terminal(book: &mut Book, given: Given) -> Answered {
 /// As with closes, a list too short puts the copy back.
 pub fn prune(book: &mut Book, given: Given) -> Answered {
     times(given.numbers)?;
-    let before = inside::copy(&book.ledger);
+    let before = spare(book, given.lent.len() / 3);
+    let owed = book.ledger.len();
     let reports: Vec<[u64; 3]> = book
         .ledger
         .prune(WeightedTimestamp(given.numbers[0]))
@@ -173,8 +186,8 @@ pub fn prune(book: &mut Book, given: Given) -> Answered {
             ]
         })
         .collect();
-    let fell = (before.len() - book.ledger.len()) as u64;
-    let written = write(&reports, given.lent).inspect_err(|_| book.ledger = before)?;
+    let fell = (owed - book.ledger.len()) as u64;
+    let written = write(&reports, given.lent).inspect_err(|_| put_back(book, before))?;
     given.said.push(written);
     given.said.push(fell);
     Ok(())
