@@ -67,20 +67,16 @@ filed l h ds x f g =
 module _ (l : Ledger) (h : Held l) (shard : ℕ) where
   -- Stamp.
   module _ (until : ℕ) where
-    pub stamp-late : isTime until ≡ false → Meets (afterStamp shard until (contents l)) [] [] (saysNo 3 l)
+    pub stamp-refused : (n : ℕ) → n ≡ stampRefusal shard until → 0 < n → Meets (afterStamp shard until (contents l)) [] [] (saysNo n l)
     unfolding afterStamp
-    stamp-late q = refuses 2 l [] (stampRefusal shard until) _ (saysNo 3 l) h (rw q) refl
+    stamp-refused zero e p = absurd (omega arith)
+    stamp-refused (suc n) e p = refuses n l [] (stampRefusal shard until) _ (saysNo (suc n) l) h (sym e) refl
 
-    pub stamp-nowhere : isTime until ≡ true → isShard shard ≡ false → Meets (afterStamp shard until (contents l)) [] [] (saysNo 4 l)
-    unfolding afterStamp
-    stamp-nowhere q r = refuses 3 l [] (stampRefusal shard until) _ (saysNo 4 l) h (rw (q, r)) refl
-
-    pub stamp-known : isTime until ≡ true → isShard shard ≡ true → (x : Departures) → departures.Holds (change shardOf shard (stamped until) (onFile (l .departures))) x →
+    pub stamp-known : stampRefusal shard until ≡ 0 → (x : Departures) → departures.Holds (change shardOf shard (stamped until) (onFile (l .departures))) x →
         Meets (afterStamp shard until (contents l)) [] [] (says 0 (withFile l x))
     unfolding afterStamp contents
-    stamp-known q r x f =
+    stamp-known none x f =
         let o = done [] (withDepartures (change shardOf shard (stamped until) (contents l .departures)) (contents l)) in
-        let none : stampRefusal shard until ≡ 0 = rw (q, r) in
         passes (stampRefusal shard until) (contents l) o [] [] (says 0 (withFile l x)) none
         (silent (withFile l x) _ _ (filed l h _ x f (good-after (stampRefusal shard until) (contents l) o none (step-good (stamp shard until) tt (contents l) (h .good)))) refl)
 

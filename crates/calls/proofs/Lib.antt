@@ -1,4 +1,6 @@
 pub mod Single
+pub mod Looked
+pub mod Going
 pub mod Empties
 pub mod Departing
 pub mod Named

@@ -35,14 +35,15 @@ use Rattle.entry.specs.Entry.{plainEntry, Means}
 use Rattle.store.specs.declared.roster.Roster.{Roster}
 use Rattle.store.specs.Roster.{keysOf, freeSlot, is, below, Opened}
 use Rattle.words.specs.Taken.{groupAt}
-use Rattle.words.proofs.Groups.{groups-length, reach-start, reach-next, group-at}
+use Rattle.words.proofs.Groups.{recorded, groups-length, reach-start, reach-next, group-at}
 use Rattle.ledger.specs.declared.Ledger.{Ledger}
 use Rattle.ledger.specs.Contents.{contents, entriesOf, Held}
 use Rattle.ledger.specs.Meets.{Meets}
 use Rattle.ledger.proofs.Lift.{withParts, Became, entries-length, found-at, not-found, changed, taken-in}
 use Rattle.ledger.proofs.Meeting.{refuses, passes, answers}
 use Rattle.calls.specs.Abandoned.{transactions, newTo, refusalBy}
-use Rattle.calls.proofs.Single.{says, saysNo}
+use Rattle.calls.proofs.Single.{says}
+use Rattle.calls.proofs.Going.{Going, left-out, ends}
 
 -- what holds wherever a list is read holds of each
 pub every-read : (P : ℕ → Type 0) (l : List ℕ) → ((i : ℕ) → P (getD l i 0)) → Every P l
@@ -53,7 +54,7 @@ pub of-words : (ws : List ℕ) → ((i : ℕ) → getD ws i 0 < 2 ^ 64) → Ever
 of-words ws f = every-read (Holds isWord) ws (λ i. lt-ltb (getD ws i 0) (2 ^ 64) (f i))
 
 -- the roster's keys say what is owed
-pub by-keys : (l : Ledger) → Held l → (ws : List ℕ) → refusalBy (keysOf (l .roster)) ws ≡ abandonmentRefusal ws (contents l)
+by-keys : (l : Ledger) → Held l → (ws : List ℕ) → refusalBy (keysOf (l .roster)) ws ≡ abandonmentRefusal ws (contents l)
 unfolding contents
 by-keys l h ws =
     let ts = transactions ws in
@@ -63,13 +64,6 @@ by-keys l h ws =
     ap₂ (λ (m n : ℕ). not (recordFormed ws) gives 5 then not (recordTimed ws) gives 3 then not (isShard (recordShard ws)) gives 4 then ltb (48 - m) n gives 6 then 0)
     (ap length (h .keyed) ∙ length-map (entriesOf l) transactionOf) (ap length same)
 
--- a number that the table gives
-pub refuses-by : (l : Ledger) (ws : List ℕ) (n : ℕ) → Held l → n ≡ refusalBy (keysOf (l .roster)) ws → 0 < n → Meets (afterAbandonment ws (contents l)) [] [] (saysNo n l)
-unfolding afterAbandonment
-refuses-by l ws n h e z =
-    let s : n ≡ suc (n - 1) = omega arith in
-    refuses (n - 1) l [] (abandonmentRefusal ws (contents l)) _ (saysNo n l) h (sym (by-keys l h ws) ∙ sym e ∙ s) (ap (λ k. saysNo k l) s)
-
 -- no number
 pub record Passed (ws : List ℕ) (p : Plain) : Type 0 where
   pub formed : recordFormed ws ≡ true
@@ -77,7 +71,7 @@ pub record Passed (ws : List ℕ) (p : Plain) : Type 0 where
   pub shard : isShard (recordShard ws) ≡ true
   pub room : length (withGroups (recordShard ws) (recordGroups ws) (p .entries)) ≤ 48
 
-pub passing : (ws : List ℕ) (p : Plain) → Good p → abandonmentRefusal ws p ≡ 0 → Passed ws p
+passing : (ws : List ℕ) (p : Plain) → Good p → abandonmentRefusal ws p ≡ 0 → Passed ws p
 passing ws p g e =
     let f = tested (recordFormed ws) 4 _ e in
     let t = tested (recordTimed ws) 2 _ (f .1) in
@@ -90,6 +84,14 @@ passing ws p g e =
       shard = s .0;
       room = omega (arith, room, g .entryCount, groups-count (recordShard ws) gs (p .entries), rebuilt-count (recordShard ws) gs (p .entries));
     }
+
+pub passes-by : (l : Ledger) (ws : List ℕ) (refused : ℕ) → Held l → refused ≡ refusalBy (keysOf (l .roster)) ws → refused ≡ 0 → Passed ws (contents l)
+passes-by l ws refused h q e = passing ws (contents l) (h .good) (sym (by-keys l h ws) ∙ sym q ∙ e)
+
+-- few groups are gone through, refused or not
+pub groups-few : (l : Ledger) (ws : List ℕ) (refused m : ℕ) → Held l → refused ≡ refusalBy (keysOf (l .roster)) ws → m ≡ cond (ltb 0 refused) 0 (groupCount ws) → m ≤ 48
+groups-few l ws zero m h q e = omega (arith, e, recorded ws (passes-by l ws 0 h q refl .formed))
+groups-few l ws (suc k) m h q e = omega (arith, left-out k (groupCount ws) m e)
 
 -- The ledger stays good.
 
@@ -215,7 +217,7 @@ unfolding contents
 same-count l p e = ap (λ (p : Plain). p .rebuilt) e
 
 -- after the last
-pub rebuilt-all : (l₀ : Ledger) (ws : List ℕ) (l : Ledger) (start n i sum : ℕ) → abandonmentRefusal ws (contents l₀) ≡ 0 → recordFormed ws ≡ true → Rebuilding l₀ ws l start n i →
+rebuilt-all : (l₀ : Ledger) (ws : List ℕ) (l : Ledger) (start n i sum : ℕ) → abandonmentRefusal ws (contents l₀) ≡ 0 → recordFormed ws ≡ true → Rebuilding l₀ ws l start n i →
     groupCount ws ≤ i → sum ≡ min (l .rebuilt + n) maxCount → Meets (afterAbandonment ws (contents l₀)) [] [] (says n (counted l sum))
 unfolding afterAbandonment
 rebuilt-all l₀ ws l start n i sum e f v h q =
@@ -229,6 +231,23 @@ rebuilt-all l₀ ws l start n i sum e f v h q =
     passes (abandonmentRefusal ws p) p _ [] [] (says n (counted l sum)) e
     (rw (sym many, sym es)
     (answers n (counted l sum) _ _ (record { held = b .held; holds = b .holds ∙ ap (withRebuilt sum) (v .frame) ∙ ap (λ k. withRebuilt k (withEntries (contents l .entries) p)) sums }) refl))
+
+-- no more than it was
+same-counted : (l : Ledger) (sum : ℕ) → Held l → sum ≡ min (l .rebuilt + 0) maxCount → counted l sum ≡ l
+unfolding contents
+same-counted l sum h q = let e : sum ≡ l .rebuilt = omega (arith, q, h .good .rebuilt) in ap (counted l) e
+
+-- at the call's end, refused or brought back
+pub rebuilds : (l₀ : Ledger) (ws : List ℕ) (l : Ledger) (refused m start n i sum : ℕ) → Held l₀ → refused ≡ refusalBy (keysOf (l₀ .roster)) ws → m ≡ cond (ltb 0 refused) 0 (groupCount ws) →
+    Going refused l₀ l n (Rebuilding l₀ ws l start n i) → m ≤ i → sum ≡ min (l .rebuilt + n) maxCount → Meets (afterAbandonment ws (contents l₀)) [] [] (ends refused n (counted l sum))
+unfolding afterAbandonment
+rebuilds l₀ ws l zero m start n i sum h q e v k s =
+    rebuilt-all l₀ ws l start n i sum (sym (by-keys l₀ h ws) ∙ sym q) (passes-by l₀ ws 0 h q refl .formed) (v .goes refl) (omega (arith, e, k)) s
+rebuilds l₀ ws l (suc r) m start n i sum h q e v k s =
+    let here = v .stays (omega arith) in
+    let none = v .none (omega arith) in
+    let kept : counted l sum ≡ l₀ = ap (λ y. counted y sum) here ∙ same-counted l₀ sum h (s ∙ ap₂ (λ (y : Ledger) (d : ℕ). min (y .rebuilt + d) maxCount) here none) in
+    refuses r l₀ [] (abandonmentRefusal ws (contents l₀)) _ (ends (suc r) n (counted l sum)) h (sym (by-keys l₀ h ws) ∙ sym q) (ap₂ (ends (suc r)) none kept)
 
 -- a turn of the loop: the group's entry x was read, and the ledger after it
 module _ (l₀ : Ledger) (ws : List ℕ) (p : Passed ws (contents l₀)) (l : Ledger) (start n i : ℕ) (v : Rebuilding l₀ ws l start n i) (h : i < groupCount ws)

@@ -1,13 +1,13 @@
 -- Finalization, line by line: what is still to come does to the ledger in hand what all lines do to the one handed in. Each line
 -- skips, turns or releases as the rule on its entry says.
 -- Assumes nothing.
-use Prim.Native.Nat.{ℕ, _+_, _≤_, _<_}
-use mathlib.Core.Path.{_≡_, refl, sym, ap, _∙_}
+use Prim.Native.Nat.{ℕ, zero, suc, _+_, _≤_, _<_}
+use mathlib.Core.Path.{_≡_, refl, sym, ap, ap₂, _∙_}
 use mathlib.Core.Bool.{Bool, true, false, cond, not, _&&_, false≢true}
 use mathlib.Core.List.{List, [], _∷_}
 use mathlib.Core.Option.{none, some}
 use native.Mathlib.Omega.{arith}
-use lib.Dec.{eqb}
+use lib.Dec.{eqb, ltb}
 use lib.ListN.{drop, getD, set}
 use Rattle.lists.specs.Lists.{keep, has, get, change, self}
 use Rattle.lists.specs.Arrays.{place}
@@ -20,7 +20,7 @@ use Rattle.rules.specs.Words.{Line, word, lineCount, finalizationFormed, finali
 use Rattle.rules.specs.Entries.{Ruling, skip, turn, release, rulingOn, ruling, ruled, isRelease, withLines, releasedBy, withPart}
 use Rattle.rules.specs.Calls.{forget, finalization, afterForget, finalizationRefusal, afterFinalization}
 use Rattle.rules.specs.Good.{Good}
-use Rattle.rules.proofs.Kept.{step-good}
+use Rattle.rules.proofs.Kept.{tested, step-good}
 use Rattle.entry.specs.declared.Entry.{Entry}
 use Rattle.entry.specs.Entry.{plainEntry, Means}
 use Rattle.store.specs.declared.roster.Roster.{Roster}
@@ -37,7 +37,8 @@ use Rattle.ledger.proofs.Meeting.{refuses, passes, answers}
 use Rattle.calls.specs.declared.finalization.Ruling as declared
 use Rattle.calls.specs.declared.finalization.Ruling.the-variants.{Skip, Turn, Release}
 use Rattle.calls.specs.Rulings.{plainRuling}
-use Rattle.calls.proofs.Single.{says, saysNo, unnamed}
+use Rattle.calls.proofs.Single.{says, unnamed}
+use Rattle.calls.proofs.Going.{Going, ends}
 
 -- lines i and on, on the ledger in hand, and all lines, on the one handed in
 pub record Resolving (l₀ : Ledger) (ws : List ℕ) (l : Ledger) (released i : ℕ) : Type 0 where
@@ -55,7 +56,7 @@ pub resolving : (l : Ledger) (ws : List ℕ) → Held l → Resolving l ws l 0 0
 resolving l ws h = record { high = omega arith; few = omega arith; held = h; frame = refl; entries = refl; count = omega arith }
 
 -- after the last
-pub resolved : (l₀ : Ledger) (ws : List ℕ) (l : Ledger) (released i : ℕ) → finalizationFormed ws ≡ true → Resolving l₀ ws l released i → lineCount ws ≤ i →
+resolved : (l₀ : Ledger) (ws : List ℕ) (l : Ledger) (released i : ℕ) → finalizationFormed ws ≡ true → Resolving l₀ ws l released i → lineCount ws ≤ i →
     Meets (afterFinalization ws (contents l₀)) [] [] (says released l)
 unfolding afterFinalization
 resolved l₀ ws l released i f v h =
@@ -69,10 +70,17 @@ resolved l₀ ws l released i f v h =
     passes (finalizationRefusal ws) (contents l₀) _ [] [] (says released l) (rw f)
     (rw (sym n, sym es) (answers released l _ _ (record { held = v .held; holds = v .frame }) refl))
 
--- 5
-pub unformed : (l : Ledger) (ws : List ℕ) → Held l → finalizationFormed ws ≡ false → Meets (afterFinalization ws (contents l)) [] [] (saysNo 5 l)
+-- no number means that the words are well formed
+pub formed : (ws : List ℕ) (refused : ℕ) → refused ≡ finalizationRefusal ws → refused ≡ 0 → finalizationFormed ws ≡ true
+formed ws refused q e = tested (finalizationFormed ws) 4 0 (sym q ∙ e) .0
+
+-- at the call's end, refused or resolved
+pub resolves : (l₀ : Ledger) (ws : List ℕ) (l : Ledger) (refused n released i : ℕ) → Held l₀ → refused ≡ finalizationRefusal ws → n ≡ cond (ltb 0 refused) 0 (lineCount ws) →
+    Going refused l₀ l released (Resolving l₀ ws l released i) → n ≤ i → Meets (afterFinalization ws (contents l₀)) [] [] (ends refused released l)
 unfolding afterFinalization
-unformed l ws h f = refuses 4 l [] (finalizationRefusal ws) _ (saysNo 5 l) h (rw f) refl
+resolves l₀ ws l zero n released i h q e v k = resolved l₀ ws l released i (formed ws 0 q refl) (v .goes refl) (omega (arith, e, k))
+resolves l₀ ws l (suc m) n released i h q e v k =
+    refuses m l₀ [] (finalizationRefusal ws) _ (ends (suc m) released l) h (sym q) (ap₂ (ends (suc m)) (v .none (omega arith)) (v .stays (omega arith)))
 
 -- a line of Accept that decides itself turns a core that owes
 turn-good : (p : Plain) (t : ℕ) (e : plain.Entry) → get transactionOf t (p .entries) ≡ some e → isCore (e .part) && owes (p .local) (e .terms) ≡ true → Good p →

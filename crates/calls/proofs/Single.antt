@@ -13,7 +13,7 @@ use Rattle.lists.specs.Lists.{keep, has, get, without, change, include, include
 use Rattle.lists.specs.Arrays.{place, rank}
 use Rattle.lists.specs.declared.Found.the-variants.{At, Nothing}
 use Rattle.lists.proofs.Tests.{by-cond}
-use Rattle.lists.proofs.Order.{include-known, length-include}
+use Rattle.lists.proofs.Order.{include-known}
 use Rattle.lists.proofs.Change.{change-same}
 use Rattle.rules.specs.Numbers.{isWord, isShard}
 use Rattle.rules.specs.Plain as plain
@@ -25,7 +25,7 @@ use Rattle.rules.specs.Calls.{Call, forget, fated, certify, absence, settled, r
 use Rattle.rules.specs.Good.{Good}
 use Rattle.rules.proofs.Kept.{step-good}
 use Rattle.entry.specs.declared.Entry.{Entry}
-use Rattle.entry.specs.Entry.{plainEntry, absencesOf, Fits, Means, RoomForAbsence}
+use Rattle.entry.specs.Entry.{plainEntry, Fits, Means}
 use Rattle.entry.proofs.Absent.{length-absences}
 use Rattle.store.specs.declared.roster.Roster.{Roster}
 use Rattle.store.specs.declared.issuers.Issuers.{Issuers}
@@ -45,6 +45,10 @@ says n l = record { refused = 0; answer = n; fallen = 0; ledger = l }
 
 abbrev pub saysNo : ℕ → Ledger → Done
 saysNo n l = record { refused = n; answer = 0; fallen = 0; ledger = l }
+
+-- a refusal's number that is 0 is none
+pub unrefused : (n m : ℕ) (l : Ledger) (o : Outcome) (a b : List ℕ) → n ≡ 0 → Meets o a b (says m l) → Meets o a b (record { refused = n; answer = m; fallen = 0; ledger = l })
+unrefused n m l o a b e w = rw e w
 
 -- the ledger as it is
 stays : (l : Ledger) → Held l → (p : Plain) → contents l ≡ p → Became p l
@@ -167,17 +171,6 @@ module _ (l : Ledger) (h : Held l) (t : ℕ) where
       abbrev size : length (plainEntry old .absences) ≡ old .«absences_len»
       unfolding plainEntry
       size = length-absences old (found-at l h t k e .fits d)
-
-      -- there is room for one more
-      pub absence-room : old .«absences_len» < 8 → RoomForAbsence a old
-      unfolding plainEntry
-      absence-room f =
-          let w = found-at l h t k e in
-          record {
-            fits = w .fits d;
-            rising = w .good d .absenceOrder;
-            room = omega (arith, size, length-include absenceKey a (absencesOf old));
-          }
 
       pub absence-full : isRead a (plainEntry old) ≡ false → 8 ≤ old .«absences_len» → Meets (afterAbsence t a (contents l)) [] [] (saysNo 7 l)
       unfolding afterAbsence

@@ -3,6 +3,7 @@ pub mod Terminals
 pub mod Naming
 pub mod Refusals
 pub mod Rulings
+pub mod Looking
 pub mod Leaving
 pub mod Closing
 pub mod Abandoned

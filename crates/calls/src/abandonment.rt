@@ -1,12 +1,13 @@
 // Abandonment record: what a shard's abandonment names, and what it brings back.
 ghost use mathlib.Core.Path.{_≡_};
-ghost use mathlib.Core.Bool.{true};
+ghost use mathlib.Core.Bool.{true, cond};
 ghost use mathlib.Core.List.{[]};
 ghost use Prim.Native.Nat.{_+_, _≤_, min};
+ghost use lib.Dec.{ltb};
 ghost use lib.ListN.{length, take};
 ghost use Rattle.lists.specs.Lists.{has, self};
 ghost use Rattle.rules.specs.Numbers.{maxCount};
-ghost use Rattle.rules.specs.Calls.{abandonmentRefusal, afterAbandonment};
+ghost use Rattle.rules.specs.Calls.{afterAbandonment};
 ghost use Rattle.rules.specs.Words.{recordFormed, groupCount};
 ghost use Rattle.store.specs.Roster.{Sound, keysOf};
 ghost use Rattle.ledger.specs.Contents.{Held, contents};
@@ -93,13 +94,24 @@ fn capped(count: u64, n: u64) -> u64
     count + n
 }
 
-// Group by group: an owed entry takes the shard's name, any other is rebuilt and put in.
-fn bring_back(ledger: Ledger, words: &[u64]) -> Done
-    requires { ⌜ Held ledger × (abandonmentRefusal (now words) (contents ledger) ≡ 0) ⌝ }
+// How many groups there are to go through, none where the record is refused.
+fn groups_of(words: &[u64], refused: u64) -> usize
+    ensures { λ r. ⌜ r ≡ cond (ltb 0 refused) 0 (groupCount (now (words .entry))) ⌝ }
+{
+    if 0 < refused {
+        return 0;
+    }
+    size_at(words, 0)
+}
+
+// Notes what a record abandons, and answers how many entries were rebuilt. Group by group: an owed entry takes the shard's name, any
+// other is rebuilt and put in.
+pub fn record_abandonment(mut ledger: Ledger, words: &[u64]) -> Done
+    requires { ⌜ Held ledger ⌝ }
     ensures { λ r. ⌜ Meets (afterAbandonment (now (words .entry)) (contents ledger)) [] [] r ⌝ }
 {
-    let mut l = ledger;
-    let n = size_at(words, 0);
+    let refused = refusal(ledger.roster, words);
+    let n = groups_of(words, refused);
     let shard = Shard(word_at(words, 1));
     let mut at = 2 + n + 5 * n;
     let mut rebuilt: u64 = 0;
@@ -108,46 +120,28 @@ fn bring_back(ledger: Ledger, words: &[u64]) -> Done
         let e = group(words, i, at);
         at += size_at(words, 2 + i);
         i += 1;
-        let roster = l.roster;
+        let roster = ledger.roster;
         let tx = e.tx;
         match roster.find(tx) {
             Found::At(k) => {
                 let slot = roster.slots[k];
-                let old = l.entries[slot];
-                l.entries[slot] = old.with_naming(shard);
+                let old = ledger.entries[slot];
+                ledger.entries[slot] = old.with_naming(shard);
             }
             Found::Nothing => {
                 let end = roster.len;
                 let slot = roster.slots[end];
-                l.roster = roster.opened(roster.rank(tx), tx);
-                l.entries[slot] = e;
+                ledger.roster = roster.opened(roster.rank(tx), tx);
+                ledger.entries[slot] = e;
                 rebuilt += 1;
             }
         }
     }
-    l.rebuilt = capped(l.rebuilt, rebuilt);
+    ledger.rebuilt = capped(ledger.rebuilt, rebuilt);
     Done {
-        refused: 0,
+        refused,
         answer: rebuilt,
         fallen: 0,
-        ledger: l,
+        ledger,
     }
-}
-
-// Notes what a record abandons, and answers how many entries were rebuilt.
-pub fn record_abandonment(ledger: Ledger, words: &[u64]) -> Done
-    requires { ⌜ Held ledger ⌝ }
-    ensures { λ r. ⌜ Meets (afterAbandonment (now (words .entry)) (contents ledger)) [] [] r ⌝ }
-{
-    let roster = ledger.roster;
-    let number = refusal(roster, words);
-    if 0 < number {
-        return Done {
-            refused: number,
-            answer: 0,
-            fallen: 0,
-            ledger,
-        };
-    }
-    bring_back(ledger, words)
 }

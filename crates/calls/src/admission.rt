@@ -69,43 +69,30 @@ fn refusal(words: &[u64], found: Found, len: usize) -> u64
 }
 
 // Takes a transaction in, and answers 1; one that is owed already is skipped and answers 0.
-pub fn register_committed(ledger: Ledger, words: &[u64]) -> Done
+pub fn register_committed(mut ledger: Ledger, words: &[u64]) -> Done
     requires { ⌜ Held ledger ⌝ }
     ensures { λ r. ⌜ Meets (afterAdmission (now (words .entry)) (contents ledger)) [] [] r ⌝ }
 {
-    let mut l = ledger;
-    let roster = l.roster;
+    let mut answer: u64 = 0;
+    let roster = ledger.roster;
     let len = roster.len;
     let tx = admission_transaction(words);
     let found = roster.find(tx);
     let refused = refusal(words, found, len);
-    if 0 < refused {
-        return Done {
-            refused,
-            answer: 0,
-            fallen: 0,
-            ledger: l,
-        };
+    if refused == 0 {
+        if let Found::Nothing = found {
+            let e = admitted(words, ledger.local);
+            let slot = roster.slots[len];
+            ledger.roster = roster.opened(roster.rank(tx), tx);
+            ledger.issuers = name_issued(ledger.issuers, e, ledger.local);
+            ledger.entries[slot] = e;
+            answer = 1;
+        }
     }
-    let Found::Nothing = found else {
-        return Done {
-            refused: 0,
-            answer: 0,
-            fallen: 0,
-            ledger: l,
-        };
-    };
-    let e = admitted(words, l.local);
-    let slot = roster.slots[len];
-    let opened = roster.opened(roster.rank(tx), tx);
-    let named = name_issued(l.issuers, e, l.local);
-    l.roster = opened;
-    l.issuers = named;
-    l.entries[slot] = e;
     Done {
-        refused: 0,
-        answer: 1,
+        refused,
+        answer,
         fallen: 0,
-        ledger: l,
+        ledger,
     }
 }

@@ -1,9 +1,17 @@
 // Certify, and the reading of a cell as absent: what one owed entry is told.
 ghost use mathlib.Core.List.{[]};
+ghost use mathlib.Core.Path.{_≡_};
+ghost use Prim.Native.Nat.{ℕ};
+ghost use Rattle.lists.specs.Lists.{Ascending};
+ghost use Rattle.lists.specs.declared.Found.the-variants.{At};
+ghost use Rattle.rules.specs.Plain.{absenceKey};
 ghost use Rattle.rules.specs.Calls.{afterCertify, afterAbsence};
-ghost use Rattle.entry.specs.Entry.{absence};
+ghost use Rattle.entry.specs.Entry.{absence, absencesOf, Fits};
 ghost use Rattle.ledger.specs.Contents.{Held, contents};
 ghost use Rattle.ledger.specs.Meets.{Meets};
+ghost use Rattle.calls.specs.Looking.{HearsAbsence};
+use crate::looking::slot_of;
+use entry::Entry;
 use ledger::Done;
 use ledger::Ledger;
 use lists::Found;
@@ -12,86 +20,93 @@ use types::Transaction;
 use types::is_shard;
 
 // How far this shard has spoken for a transaction: the greater code is kept.
-pub fn certify(ledger: Ledger, tx: Transaction, code: u64) -> Done
+pub fn certify(mut ledger: Ledger, tx: Transaction, code: u64) -> Done
     requires { ⌜ Held ledger ⌝ }
     ensures { λ r. ⌜ Meets (afterCertify (tx .0) code (contents ledger)) [] [] r ⌝ }
 {
-    let mut l = ledger;
+    let mut refused: u64 = 0;
     if 2 < code {
-        return Done {
-            refused: 5,
-            answer: 0,
-            fallen: 0,
-            ledger: l,
-        };
+        refused = 5;
+    } else {
+        let roster = ledger.roster;
+        if let Found::At(k) = roster.find(tx) {
+            let slot = roster.slots[k];
+            let e = ledger.entries[slot];
+            ledger.entries[slot] = e.with_certificate((code % 256) as u8);
+        }
     }
-    let roster = l.roster;
-    let Found::At(k) = roster.find(tx) else {
-        return Done {
-            refused: 0,
-            answer: 0,
-            fallen: 0,
-            ledger: l,
-        };
-    };
-    let slot = roster.slots[k];
-    let e = l.entries[slot];
-    let f = e.with_certificate((code % 256) as u8);
-    l.entries[slot] = f;
     Done {
-        refused: 0,
+        refused,
         answer: 0,
         fallen: 0,
-        ledger: l,
+        ledger,
     }
 }
-// A sibling's cell was read absent: answers whether that is new.
-pub fn record_absence(ledger: Ledger, tx: Transaction, shard: Shard, key: u64) -> Done
-    requires { ⌜ Held ledger ⌝ }
-    ensures { λ r. ⌜ Meets (afterAbsence (tx .0) (absence (shard .0) key) (contents ledger)) [] [] r ⌝ }
+
+// What one entry says to an absence, and the entry after it.
+pub struct Heard {
+    pub refused: u64,
+    pub answer: u64,
+    pub entry: Entry,
+}
+
+// What the entry that was looked up says to an absence; one that was not found says no, and any entry stands for it unchanged.
+fn hear_absence(found: Found, e: Entry, shard: Shard, key: u64) -> Heard
+    requires { ⌜ Fits e ⌝ }
+    requires { ⌜ ((k : ℕ) → found ≡ At k → Ascending absenceKey (absencesOf e)) ⌝ }
+    ensures { λ r. ⌜ HearsAbsence (absence (shard .0) key) found e r ⌝ }
 {
-    let mut l = ledger;
     if !is_shard(shard.0) {
-        return Done {
+        return Heard {
             refused: 4,
             answer: 0,
-            fallen: 0,
-            ledger: l,
+            entry: e,
         };
     }
-    let roster = l.roster;
-    let Found::At(k) = roster.find(tx) else {
-        return Done {
+    let Found::At(_) = found else {
+        return Heard {
             refused: 0,
             answer: 0,
-            fallen: 0,
-            ledger: l,
+            entry: e,
         };
     };
-    let slot = roster.slots[k];
-    let e = l.entries[slot];
     if e.is_read(shard, key) {
-        return Done {
+        return Heard {
             refused: 0,
             answer: 0,
-            fallen: 0,
-            ledger: l,
+            entry: e,
         };
     }
     if 8 <= e.absences_len {
-        return Done {
+        return Heard {
             refused: 7,
             answer: 0,
-            fallen: 0,
-            ledger: l,
+            entry: e,
         };
     }
-    let f = e.with_absence(shard, key);
-    l.entries[slot] = f;
-    Done {
+    Heard {
         refused: 0,
         answer: 1,
+        entry: e.with_absence(shard, key),
+    }
+}
+
+// A sibling's cell was read absent: answers whether that is new.
+pub fn record_absence(mut ledger: Ledger, tx: Transaction, shard: Shard, key: u64) -> Done
+    requires { ⌜ Held ledger ⌝ }
+    ensures { λ r. ⌜ Meets (afterAbsence (tx .0) (absence (shard .0) key) (contents ledger)) [] [] r ⌝ }
+{
+    let roster = ledger.roster;
+    let found = roster.find(tx);
+    let slot = slot_of(roster, found);
+    let e = ledger.entries[slot];
+    let heard = hear_absence(found, e, shard, key);
+    let f = heard.entry;
+    ledger.entries[slot] = f;
+    Done {
+        refused: heard.refused,
+        answer: heard.answer,
         fallen: 0,
-        ledger: l,
+        ledger,
     }
 }

@@ -1,12 +1,13 @@
 // Finalization: what a committed block's verdicts resolve.
 ghost use mathlib.Core.Path.{_≡_};
-ghost use mathlib.Core.Bool.{true, not, _&&_};
+ghost use mathlib.Core.Bool.{true, cond, not, _&&_};
 ghost use mathlib.Core.List.{[]};
+ghost use lib.Dec.{ltb};
 ghost use Rattle.lists.specs.Lists.{has, self};
 ghost use Rattle.rules.specs.Plain.{isCore, isSettling, owes};
-ghost use Rattle.rules.specs.Calls.{afterFinalization};
+ghost use Rattle.rules.specs.Calls.{finalizationRefusal, afterFinalization};
 ghost use Rattle.rules.specs.Entries.{rulingOn};
-ghost use Rattle.rules.specs.Words.{finalizationFormed, deciding};
+ghost use Rattle.rules.specs.Words.{lineCount, finalizationFormed, deciding};
 ghost use Rattle.entry.specs.Entry.{plainEntry, plainPart, Fits};
 ghost use Rattle.ledger.specs.Contents.{Held, contents};
 ghost use Rattle.ledger.specs.Meets.{Meets};
@@ -86,58 +87,59 @@ fn rule(words: &[u64], tx: Transaction, code: u64, e: Entry, local: Shard) -> Ru
     decide(code, open, owing)
 }
 
-// Line by line, skips, turns to remainder or releases the entry that the line names.
-fn resolve(ledger: Ledger, words: &[u64]) -> Done
-    requires { ⌜ Held ledger × (finalizationFormed (now words) ≡ true) ⌝ }
+// How many lines there are, none where the words are refused.
+fn lines_of(words: &[u64], refused: u64) -> usize
+    ensures { λ r. ⌜ r ≡ cond (ltb 0 refused) 0 (lineCount (now (words .entry))) ⌝ }
+{
+    if 0 < refused {
+        return 0;
+    }
+    size_at(words, 0)
+}
+
+// The number by which the words are turned away, 0 for none.
+fn refusal(words: &[u64]) -> u64
+    ensures { λ r. ⌜ r ≡ finalizationRefusal (now (words .entry)) ⌝ }
+{
+    if finalization_formed(words) { 0 } else { 5 }
+}
+
+// Line by line, skips, turns to remainder or releases the entry that the line names, and answers how many were released.
+pub fn release_resolved(mut ledger: Ledger, words: &[u64]) -> Done
+    requires { ⌜ Held ledger ⌝ }
     ensures { λ r. ⌜ Meets (afterFinalization (now (words .entry)) (contents ledger)) [] [] r ⌝ }
 {
-    let mut l = ledger;
-    let n = size_at(words, 0);
+    let refused = refusal(words);
+    let n = lines_of(words, refused);
     let mut released: u64 = 0;
     let mut i: usize = 0;
     while i < n {
         let tx = Transaction(words[2 + i]);
         let code = words[2 + n + i];
         i += 1;
-        let roster = l.roster;
+        let roster = ledger.roster;
         let Found::At(k) = roster.find(tx) else {
             continue;
         };
         let slot = roster.slots[k];
-        let e = l.entries[slot];
-        match rule(words, tx, code, e, l.local) {
+        let e = ledger.entries[slot];
+        match rule(words, tx, code, e, ledger.local) {
             Ruling::Skip => {}
             Ruling::Turn => {
-                l.entries[slot] = e.turned();
+                ledger.entries[slot] = e.turned();
             }
             Ruling::Release => {
-                let issuers = l.issuers;
-                l.roster = roster.closed(k);
-                l.issuers = issuers.without(tx);
+                let issuers = ledger.issuers;
+                ledger.roster = roster.closed(k);
+                ledger.issuers = issuers.without(tx);
                 released += 1;
             }
         }
     }
     Done {
-        refused: 0,
+        refused,
         answer: released,
         fallen: 0,
-        ledger: l,
+        ledger,
     }
-}
-
-// Resolves what the lines decide, and answers how many entries were released.
-pub fn release_resolved(ledger: Ledger, words: &[u64]) -> Done
-    requires { ⌜ Held ledger ⌝ }
-    ensures { λ r. ⌜ Meets (afterFinalization (now (words .entry)) (contents ledger)) [] [] r ⌝ }
-{
-    if !finalization_formed(words) {
-        return Done {
-            refused: 5,
-            answer: 0,
-            fallen: 0,
-            ledger,
-        };
-    }
-    resolve(ledger, words)
 }

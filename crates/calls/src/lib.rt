@@ -6,6 +6,7 @@ pub mod certificate;
 pub mod closes;
 pub mod finalization;
 pub mod leaving;
+mod looking;
 pub mod making;
 pub mod prune;
 pub mod release;

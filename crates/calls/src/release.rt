@@ -9,68 +9,48 @@ use lists::Found;
 use types::Transaction;
 
 // Lets a transaction go with no outcome, and answers whether it was owed.
-pub fn forget(ledger: Ledger, tx: Transaction) -> Done
+pub fn forget(mut ledger: Ledger, tx: Transaction) -> Done
     requires { ⌜ Held ledger ⌝ }
     ensures { λ r. ⌜ Meets (afterForget (tx .0) (contents ledger)) [] [] r ⌝ }
 {
-    let mut l = ledger;
-    let roster = l.roster;
-    let Found::At(k) = roster.find(tx) else {
-        return Done {
-            refused: 0,
-            answer: 0,
-            fallen: 0,
-            ledger: l,
-        };
-    };
-    let issuers = l.issuers;
-    let left = roster.closed(k);
-    let unnamed = issuers.without(tx);
-    l.roster = left;
-    l.issuers = unnamed;
+    let mut answer: u64 = 0;
+    let roster = ledger.roster;
+    if let Found::At(k) = roster.find(tx) {
+        let issuers = ledger.issuers;
+        ledger.roster = roster.closed(k);
+        ledger.issuers = issuers.without(tx);
+        answer = 1;
+    }
     Done {
         refused: 0,
-        answer: 1,
+        answer,
         fallen: 0,
-        ledger: l,
+        ledger,
     }
 }
 
 // A leg whose row a fate ends is let go as aborted, 2; all else stays, 0.
-pub fn fated(ledger: Ledger, tx: Transaction) -> Done
+pub fn fated(mut ledger: Ledger, tx: Transaction) -> Done
     requires { ⌜ Held ledger ⌝ }
     ensures { λ r. ⌜ Meets (afterFated (tx .0) (contents ledger)) [] [] r ⌝ }
 {
-    let mut l = ledger;
-    let roster = l.roster;
-    let Found::At(k) = roster.find(tx) else {
-        return Done {
-            refused: 0,
-            answer: 0,
-            fallen: 0,
-            ledger: l,
-        };
-    };
-    let slot = roster.slots[k];
-    let e = l.entries[slot];
-    let part = e.part;
-    if !part.is_leg() {
-        return Done {
-            refused: 0,
-            answer: 0,
-            fallen: 0,
-            ledger: l,
-        };
+    let mut answer: u64 = 0;
+    let roster = ledger.roster;
+    if let Found::At(k) = roster.find(tx) {
+        let slot = roster.slots[k];
+        let e = ledger.entries[slot];
+        let part = e.part;
+        if part.is_leg() {
+            let issuers = ledger.issuers;
+            ledger.roster = roster.closed(k);
+            ledger.issuers = issuers.without(tx);
+            answer = 2;
+        }
     }
-    let issuers = l.issuers;
-    let left = roster.closed(k);
-    let unnamed = issuers.without(tx);
-    l.roster = left;
-    l.issuers = unnamed;
     Done {
         refused: 0,
-        answer: 2,
+        answer,
         fallen: 0,
-        ledger: l,
+        ledger,
     }
 }

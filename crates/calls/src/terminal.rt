@@ -6,7 +6,7 @@ ghost use lib.Dec.{leb};
 ghost use lib.ListN.{length};
 ghost use Rattle.lists.specs.Lists.{has};
 ghost use Rattle.rules.specs.Plain.{shardOf};
-ghost use Rattle.rules.specs.Calls.{afterTerminal, afterStamp};
+ghost use Rattle.rules.specs.Calls.{afterTerminal, afterStamp, stampRefusal};
 ghost use Rattle.store.specs.Departures.{Sound, onFile};
 ghost use Rattle.ledger.specs.Contents.{Held, contents};
 ghost use Rattle.ledger.specs.Meets.{Meets};
@@ -61,78 +61,62 @@ fn has_room(departures: Departures, shard: Shard) -> bool
 }
 
 // The shard departed at its cut, stamped or not yet: the first cut holds, and so does the first stamp.
-pub fn record_terminal(ledger: Ledger, shard: Shard, cut: Time, stamped: u64, until: Time) -> Done
+pub fn record_terminal(
+    mut ledger: Ledger,
+    shard: Shard,
+    cut: Time,
+    stamped: u64,
+    until: Time,
+) -> Done
     requires { ⌜ Held ledger ⌝ }
     ensures { λ r. ⌜ Meets (afterTerminal (shard .0) (cut .0) stamped (until .0) (contents ledger)) [] [] r ⌝ }
 {
-    let mut l = ledger;
-    let n = refusal(shard, cut, stamped, until);
-    if 0 < n {
-        return Done {
-            refused: n,
-            answer: 0,
-            fallen: 0,
-            ledger: l,
-        };
+    let mut refused = refusal(shard, cut, stamped, until);
+    if refused == 0 {
+        let departures = ledger.departures;
+        if has_room(departures, shard) {
+            let known = departures.departed(shard, cut);
+            if stamped == 0 {
+                ledger.departures = known;
+            } else {
+                ledger.departures = known.stamped(shard, until);
+            }
+        } else {
+            refused = 8;
+        }
     }
-    let departures = l.departures;
-    if !has_room(departures, shard) {
-        return Done {
-            refused: 8,
-            answer: 0,
-            fallen: 0,
-            ledger: l,
-        };
-    }
-    let known = departures.departed(shard, cut);
-    if stamped == 0 {
-        l.departures = known;
-        return Done {
-            refused: 0,
-            answer: 0,
-            fallen: 0,
-            ledger: l,
-        };
-    }
-    let dated = known.stamped(shard, until);
-    l.departures = dated;
     Done {
-        refused: 0,
+        refused,
         answer: 0,
         fallen: 0,
-        ledger: l,
+        ledger,
     }
 }
 
+// The number by which the words of a stamp are turned away, 0 for none.
+fn stamp_refusal(shard: Shard, until: Time) -> u64
+    ensures { λ r. ⌜ r ≡ stampRefusal (shard .0) (until .0) ⌝ }
+{
+    if !is_time(until.0) {
+        return 3;
+    }
+    if is_shard(shard.0) { 0 } else { 4 }
+}
+
 // A departure on file stamped; on a shard that is not on file a stamp is nothing.
-pub fn stamp_terminal(ledger: Ledger, shard: Shard, until: Time) -> Done
+pub fn stamp_terminal(mut ledger: Ledger, shard: Shard, until: Time) -> Done
     requires { ⌜ Held ledger ⌝ }
     ensures { λ r. ⌜ Meets (afterStamp (shard .0) (until .0) (contents ledger)) [] [] r ⌝ }
 {
-    let mut l = ledger;
-    if !is_time(until.0) {
-        return Done {
-            refused: 3,
-            answer: 0,
-            fallen: 0,
-            ledger: l,
-        };
+    let refused = stamp_refusal(shard, until);
+    if refused == 0 {
+        let departures = ledger.departures;
+        ledger.departures = departures.stamped(shard, until);
     }
-    if !is_shard(shard.0) {
-        return Done {
-            refused: 4,
-            answer: 0,
-            fallen: 0,
-            ledger: l,
-        };
-    }
-    let departures = l.departures;
-    let dated = departures.stamped(shard, until);
-    l.departures = dated;
     Done {
-        refused: 0,
+        refused,
         answer: 0,
         fallen: 0,
-        ledger: l,
+        ledger,
     }
 }

@@ -2,16 +2,21 @@
 ghost use Prim.Native.Nat.{_≤_};
 ghost use Rattle.ledger.specs.Contents.{Held};
 use crate::performing::NO_CALL;
-use calls::abandonment;
-use calls::admission;
-use calls::certificate;
-use calls::closes;
-use calls::finalization;
+use crate::performing::fill;
+use calls::abandonment::record_abandonment;
+use calls::admission::register_committed;
+use calls::certificate::certify;
+use calls::certificate::record_absence;
+use calls::closes::closes;
+use calls::finalization::release_resolved;
 use calls::making;
-use calls::prune;
-use calls::release;
-use calls::settlement;
-use calls::terminal;
+use calls::prune::prune;
+use calls::release::fated;
+use calls::release::forget;
+use calls::settlement::returned;
+use calls::settlement::settled;
+use calls::terminal::record_terminal;
+use calls::terminal::stamp_terminal;
 use ledger::Done;
 use ledger::Ledger;
 use script::calls as codes;
@@ -20,55 +25,81 @@ use types::Shard;
 use types::Time;
 use types::Transaction;
 
+// Each time on the ledger that the last call handed back. Every arm takes its own ledger back, so that none is copied where the arms
+// meet. Where there is no such call, what is said stays that.
 pub fn apply(
-    ledger: Ledger,
+    mut ledger: Ledger,
     code: u8,
     numbers: &[u64; 2048],
     count: usize,
     lent: &mut [u64],
+    turns: u64,
 ) -> Done
     requires { ⌜ Held ledger × (count ≤ 2048) ⌝ }
     ensures { λ r. ⌜ Held (r .ledger) ⌝ }
 {
     let all = &numbers[..];
+    let list = &all[0..count];
     let w0 = numbers[0];
     let w1 = numbers[1];
     let w2 = numbers[2];
     let w3 = numbers[3];
-    match code {
-        codes::NEW => making::new(Shard(w0), w1, w2, w3),
-        codes::REGISTER_COMMITTED => admission::register_committed(ledger, &all[0..count]),
-        codes::RECORD_ABSENCE => absent(ledger, w0, w1, w2),
-        codes::CERTIFY => certificate::certify(ledger, Transaction(w0), w1),
-        codes::RECORD_ABANDONMENT => abandonment::record_abandonment(ledger, &all[0..count]),
-        codes::SETTLED => settlement::settled(ledger, RecordKey(w0), Transaction(w1)),
-        codes::RETURNED => settlement::returned(ledger, RecordKey(w0), Transaction(w1)),
-        codes::CLOSES => closes::closes(ledger, lent),
-        codes::FATED => release::fated(ledger, Transaction(w0)),
-        codes::RELEASE_RESOLVED => finalization::release_resolved(ledger, &all[0..count]),
-        codes::FORGET => release::forget(ledger, Transaction(w0)),
-        codes::RECORD_TERMINAL => departed(ledger, w0, w1, w2, w3),
-        codes::PRUNE => prune::prune(ledger, Time(w0), lent),
-        codes::STAMP_TERMINAL => terminal::stamp_terminal(ledger, Shard(w0), Time(w1)),
-        _ => Done {
-            refused: NO_CALL,
-            answer: 0,
-            fallen: 0,
-            ledger,
-        },
+    let tx = Transaction(w0);
+    let key = RecordKey(w0);
+    let shard = Shard(w0);
+    let time = Time(w1);
+    let mut said = [NO_CALL, 0, 0];
+    let mut left = turns;
+    while 0 < left {
+        left -= 1;
+        fill(lent);
+        match code {
+            codes::NEW => ledger = told(&mut said, making::new(shard, w1, w2, w3)),
+            codes::REGISTER_COMMITTED => ledger = told(&mut said, register_committed(ledger, list)),
+            codes::RECORD_ABSENCE => ledger = told(&mut said, absent(ledger, w0, w1, w2)),
+            codes::CERTIFY => ledger = told(&mut said, certify(ledger, tx, w1)),
+            codes::RECORD_ABANDONMENT => ledger = told(&mut said, record_abandonment(ledger, list)),
+            codes::SETTLED => ledger = told(&mut said, settled(ledger, key, Transaction(w1))),
+            codes::RETURNED => ledger = told(&mut said, returned(ledger, key, Transaction(w1))),
+            codes::CLOSES => ledger = told(&mut said, closes(ledger, lent)),
+            codes::FATED => ledger = told(&mut said, fated(ledger, tx)),
+            codes::RELEASE_RESOLVED => ledger = told(&mut said, release_resolved(ledger, list)),
+            codes::FORGET => ledger = told(&mut said, forget(ledger, tx)),
+            codes::RECORD_TERMINAL => ledger = told(&mut said, departed(ledger, w0, w1, w2, w3)),
+            codes::PRUNE => ledger = told(&mut said, prune(ledger, Time(w0), lent)),
+            codes::STAMP_TERMINAL => ledger = told(&mut said, stamp_terminal(ledger, shard, time)),
+            _ => left = 0,
+        }
     }
+    Done {
+        refused: said[0],
+        answer: said[1],
+        fallen: said[2],
+        ledger,
+    }
+}
+
+// What the call said, put down; the ledger that it handed back.
+fn told(said: &mut [u64; 3], done: Done) -> Ledger
+    requires { ⌜ Held (done .ledger) ⌝ }
+    ensures { λ r. ⌜ Held r ⌝ }
+{
+    said[0] = done.refused;
+    said[1] = done.answer;
+    said[2] = done.fallen;
+    done.ledger
 }
 
 fn absent(ledger: Ledger, tx: u64, shard: u64, key: u64) -> Done
     requires { ⌜ Held ledger ⌝ }
     ensures { λ r. ⌜ Held (r .ledger) ⌝ }
 {
-    certificate::record_absence(ledger, Transaction(tx), Shard(shard), key)
+    record_absence(ledger, Transaction(tx), Shard(shard), key)
 }
 
 fn departed(ledger: Ledger, shard: u64, cut: u64, stamped: u64, until: u64) -> Done
     requires { ⌜ Held ledger ⌝ }
     ensures { λ r. ⌜ Held (r .ledger) ⌝ }
 {
-    terminal::record_terminal(ledger, Shard(shard), Time(cut), stamped, Time(until))
+    record_terminal(ledger, Shard(shard), Time(cut), stamped, Time(until))
 }

@@ -8,7 +8,6 @@ use crate::changing;
 use crate::reading;
 use ledger::Done;
 use ledger::Ledger;
-use readings::Told;
 use script::FILL;
 use script::Parsed;
 use script::calls as codes;
@@ -29,10 +28,11 @@ pub fn perform(
 {
     let code = line.code;
     let n = line.lent;
+    let turns = turns_of(times);
     if code < codes::QUESTIONS {
-        return applied(ledger, code, numbers, line.count, &mut lent[0..n], times);
+        return changing::apply(ledger, code, numbers, line.count, &mut lent[0..n], turns);
     }
-    let told = asked(ledger, code, numbers, &mut lent[0..n], times);
+    let told = reading::ask(ledger, code, numbers, &mut lent[0..n], turns);
     Done {
         refused: told.refused,
         answer: told.answer,
@@ -41,46 +41,12 @@ pub fn perform(
     }
 }
 
-// A changing call, each time on the ledger that the last handed back.
-fn applied(
-    ledger: Ledger,
-    code: u8,
-    numbers: &[u64; 2048],
-    count: usize,
-    lent: &mut [u64],
-    times: u64,
-) -> Done
-    requires { ⌜ Held ledger × (count ≤ 2048) ⌝ }
-    ensures { λ r. ⌜ Held (r .ledger) ⌝ }
-{
-    fill(lent);
-    let mut done = changing::apply(ledger, code, numbers, count, lent);
-    let mut left = times;
-    while left > 1 && done.refused != NO_CALL {
-        fill(lent);
-        let before = done.ledger;
-        done = changing::apply(before, code, numbers, count, lent);
-        left -= 1;
-    }
-    done
+// How often a call is made: once where no `repeat` stands before it.
+fn turns_of(times: u64) -> u64 {
+    if times == 0 { 1 } else { times }
 }
 
-// A reading, each time of the same ledger.
-fn asked(ledger: Ledger, code: u8, numbers: &[u64; 2048], lent: &mut [u64], times: u64) -> Told
-    requires { ⌜ Held ledger ⌝ }
-{
-    fill(lent);
-    let mut told = reading::ask(ledger, code, numbers, lent);
-    let mut left = times;
-    while left > 1 && told.refused != NO_CALL {
-        fill(lent);
-        told = reading::ask(ledger, code, numbers, lent);
-        left -= 1;
-    }
-    told
-}
-
-fn fill(lent: &mut [u64]) {
+pub fn fill(lent: &mut [u64]) {
     let n = lent.len();
     let mut i = 0;
     while i < n {

@@ -1,6 +1,7 @@
 // The readings by their codes: an arm for each. What `dump` says is written by the reply.
 ghost use Rattle.ledger.specs.Contents.{Held};
 use crate::performing::NO_CALL;
+use crate::performing::fill;
 use ledger::Ledger;
 use readings::Told;
 use readings::entries;
@@ -12,8 +13,22 @@ use types::Shard;
 use types::Time;
 use types::Transaction;
 
+// Each time of the same ledger.
+pub fn ask(ledger: Ledger, code: u8, numbers: &[u64; 2048], lent: &mut [u64], turns: u64) -> Told
+    requires { ⌜ Held ledger ⌝ }
+{
+    let mut told = lookups::told(0);
+    let mut left = turns;
+    while 0 < left {
+        fill(lent);
+        told = read(ledger, code, numbers, lent);
+        left -= 1;
+    }
+    told
+}
+
 // A reading that is lent a list; the others are lookups.
-pub fn ask(ledger: Ledger, code: u8, numbers: &[u64; 2048], lent: &mut [u64]) -> Told
+fn read(ledger: Ledger, code: u8, numbers: &[u64; 2048], lent: &mut [u64]) -> Told
     requires { ⌜ Held ledger ⌝ }
 {
     let w = numbers[0];

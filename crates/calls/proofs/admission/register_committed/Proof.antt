@@ -2,6 +2,7 @@
 -- slot that is free.
 -- Assumes nothing.
 use mathlib.Core.Path.{_≡_, ap, _∙_}
+use mathlib.Core.List.{[]}
 use native.Mathlib.Omega.{arith}
 use lib.Seq.{length-take-le}
 use Rattle.lists.specs.Lists.{Every}
@@ -12,6 +13,7 @@ use Rattle.rules.specs.Words.{admissionTerms}
 use Rattle.rules.specs.Good.{Holds}
 use Rattle.store.specs.Roster.{keysOf, is, below}
 use Rattle.store.proofs.Rosters.{free-slot}
+use Rattle.calls.proofs.Single.{unrefused}
 use Rattle.calls.proofs.Admitting.{all-words, turned-away, is-formed, skipped, is-free, nameable, admits}
 use borrow.Author.Needs.{needs}
 use Rattle.calls.proofs.admission.register_committed.Statement.{statement}
@@ -23,11 +25,11 @@ are-words c = all-words (c .before .args .words .now) (λ i h. omega (arith, c .
 -- what the roster says of the admission's transaction
 says : (c : tie.After-find) →
     let s = c .before .before .before .before in
-    c .find .result ≡ place (is (admissionTerms (s .args .words .now) .transaction)) 0 (keysOf (s .args .ledger .roster))
+    c .find .result ≡ place (is (admissionTerms (s .args .words .now) .transaction)) 0 (keysOf (s .args .t1 .roster))
 says c =
     let a = c .before in
     let s = a .before .before .before in
-    c .find .ensures ∙ ap (λ t. place (is t) 0 (keysOf (s .args .ledger .roster))) (a .admission-transaction .ensures)
+    c .find .ensures ∙ ap (λ t. place (is t) 0 (keysOf (s .args .t1 .roster))) (a .admission-transaction .ensures)
 
 admission-transaction-requires : tie.Need-admission-transaction-requires
 admission-transaction-requires c κs = search needs
@@ -38,13 +40,13 @@ find-requires c κs = search needs
 refusal-requires : tie.Need-refusal-requires
 refusal-requires c κs = search needs
 
-returns : tie.Need-returns
-returns c =
+returns-3 : tie.Need-returns-3
+returns-3 c =
     let r = c .before in
     let f = r .before in
     let a = f .before in
     let s = a .before .before .before in
-    turned-away (s .args .ledger) (s .pre) (s .args .words .now) (f .find .result) (says f) (r .refusal .result) (r .refusal .ensures) (omega arith)
+    turned-away (s .args .t1) (s .pre) (s .args .words .now) (f .find .result) (says f) (r .refusal .result) (r .refusal .ensures) (omega arith)
 
 enum-told : tie.Need-enum-told
 enum-told c = search needs
@@ -58,7 +60,8 @@ returns-2 c =
     let f = r .before in
     let a = f .before in
     let s = a .before .before .before in
-    skipped (s .args .ledger) (s .pre) (s .args .words .now) (f .find .result) (says f) (r .refusal .result) (r .refusal .ensures) (omega arith) (c .enum-told2 .given .0 .0) (c .enum-told2 .given .1)
+    unrefused _ 0 _ _ [] [] (omega arith)
+    (skipped (s .args .t1) (s .pre) (s .args .words .now) (f .find .result) (says f) (r .refusal .result) (r .refusal .ensures) (omega arith) (c .enum-told2 .given .0 .0) (c .enum-told2 .given .1))
 
 admitted-requires : tie.Need-admitted-requires
 admitted-requires c κs =
@@ -67,7 +70,7 @@ admitted-requires c κs =
     let f = r .before in
     let a = f .before in
     let s = a .before .before .before in
-    is-formed (s .args .ledger) (s .pre) (s .args .words .now) (f .find .result) (says f) (r .refusal .result) (r .refusal .ensures) (omega arith)
+    is-formed (s .args .t1) (s .pre) (s .args .words .now) (f .find .result) (says f) (r .refusal .result) (r .refusal .ensures) (omega arith)
 
 mul-slot : tie.Need-mul-slot
 mul-slot c =
@@ -76,7 +79,7 @@ mul-slot c =
     let f = r .before in
     let a = f .before in
     let s = a .before .before .before in
-    omega (arith, is-free (s .args .ledger) (s .pre) (s .args .words .now) (f .find .result) (says f) (r .refusal .result) (r .refusal .ensures) (omega arith) (n .enum-told .given .1))
+    omega (arith, is-free (s .args .t1) (s .pre) (s .args .words .now) (f .find .result) (says f) (r .refusal .result) (r .refusal .ensures) (omega arith) (n .enum-told .given .1))
 
 element-copy-out-slot : tie.Need-element-copy-out-slot
 element-copy-out-slot c =
@@ -85,7 +88,7 @@ element-copy-out-slot c =
     let f = r .before in
     let a = f .before in
     let s = a .before .before .before in
-    is-free (s .args .ledger) (s .pre) (s .args .words .now) (f .find .result) (says f) (r .refusal .result) (r .refusal .ensures) (omega arith) (n .enum-told .given .1)
+    is-free (s .args .t1) (s .pre) (s .args .words .now) (f .find .result) (says f) (r .refusal .result) (r .refusal .ensures) (omega arith) (n .enum-told .given .1)
 
 rank-requires : tie.Need-rank-requires
 rank-requires c κs =
@@ -99,8 +102,8 @@ opened-requires c κs =
     let f = r .before in
     let a = f .before in
     let s = a .before .before .before in
-    let k = s .args .ledger .roster in
-    (s .pre .roster, omega (arith, c .rank .ensures, rank-le (below (a .admission-transaction .result .0)) (keysOf (s .args .ledger .roster)), length-take-le (k .len) (k .keys) (omega (arith, s .pre .roster .room, s .pre .roster .keyLength))), is-free (s .args .ledger) (s .pre) (s .args .words .now) (f .find .result) (says f) (r .refusal .result) (r .refusal .ensures) (omega arith) (n .enum-told .given .1))
+    let k = s .args .t1 .roster in
+    (s .pre .roster, omega (arith, c .rank .ensures, rank-le (below (a .admission-transaction .result .0)) (keysOf (s .args .t1 .roster)), length-take-le (k .len) (k .keys) (omega (arith, s .pre .roster .room, s .pre .roster .keyLength))), is-free (s .args .t1) (s .pre) (s .args .words .now) (f .find .result) (says f) (r .refusal .result) (r .refusal .ensures) (omega arith) (n .enum-told .given .1))
 
 name-issued-requires : tie.Need-name-issued-requires
 name-issued-requires c κs =
@@ -110,7 +113,7 @@ name-issued-requires c κs =
     let f = r .before in
     let a = f .before in
     let s = a .before .before .before in
-    nameable (s .args .ledger) (s .pre) (s .args .words .now) (f .find .result) (says f) (r .refusal .result) (r .refusal .ensures) (omega arith) (n .enum-told .given .1) (x .admitted .result) (x .admitted .ensures) (are-words (a .before .before))
+    nameable (s .args .t1) (s .pre) (s .args .words .now) (f .find .result) (says f) (r .refusal .result) (r .refusal .ensures) (omega arith) (n .enum-told .given .1) (x .admitted .result) (x .admitted .ensures) (are-words (a .before .before))
 
 mul-e : tie.Need-mul-e
 mul-e c =
@@ -119,7 +122,7 @@ mul-e c =
     let f = r .before in
     let a = f .before in
     let s = a .before .before .before in
-    omega (arith, free-slot (s .args .ledger .roster) (s .pre .roster) (is-free (s .args .ledger) (s .pre) (s .args .words .now) (f .find .result) (says f) (r .refusal .result) (r .refusal .ensures) (omega arith) (n .enum-told .given .1)) .0)
+    omega (arith, free-slot (s .args .t1 .roster) (s .pre .roster) (is-free (s .args .t1) (s .pre) (s .args .words .now) (f .find .result) (says f) (r .refusal .result) (r .refusal .ensures) (omega arith) (n .enum-told .given .1)) .0)
 
 element-set-from-e : tie.Need-element-set-from-e
 element-set-from-e c =
@@ -128,10 +131,10 @@ element-set-from-e c =
     let f = r .before in
     let a = f .before in
     let s = a .before .before .before in
-    free-slot (s .args .ledger .roster) (s .pre .roster) (is-free (s .args .ledger) (s .pre) (s .args .words .now) (f .find .result) (says f) (r .refusal .result) (r .refusal .ensures) (omega arith) (n .enum-told .given .1)) .0
+    free-slot (s .args .t1 .roster) (s .pre .roster) (is-free (s .args .t1) (s .pre) (s .args .words .now) (f .find .result) (says f) (r .refusal .result) (r .refusal .ensures) (omega arith) (n .enum-told .given .1)) .0
 
-returns-3 : tie.Need-returns-3
-returns-3 c =
+returns : tie.Need-returns
+returns c =
     let b = c .before .before .before in
     let k = b .before in
     let x = k .before .before in
@@ -141,8 +144,9 @@ returns-3 c =
     let a = f .before in
     let s = a .before .before .before in
     let t = a .admission-transaction .ensures in
-    admits (s .args .ledger) (s .pre) (s .args .words .now) (f .find .result) (says f) (r .refusal .result) (r .refusal .ensures) (omega arith) (n .enum-told .given .1) (x .admitted .result) (x .admitted .ensures) (are-words (a .before .before))
-    (k .rank .result) (k .rank .ensures ∙ ap (λ t. rank (below t) (keysOf (s .args .ledger .roster))) t) (b .opened .result) (rw t at (b .opened .ensures)) (c .name-issued .result) (c .name-issued .ensures)
+    unrefused _ 1 _ _ [] [] (omega arith)
+    (admits (s .args .t1) (s .pre) (s .args .words .now) (f .find .result) (says f) (r .refusal .result) (r .refusal .ensures) (omega arith) (n .enum-told .given .1) (x .admitted .result) (x .admitted .ensures) (are-words (a .before .before))
+    (k .rank .result) (k .rank .ensures ∙ ap (λ t. rank (below t) (keysOf (s .args .t1 .roster))) t) (b .opened .result) (rw t at (b .opened .ensures)) (c .name-issued .result) (c .name-issued .ensures))
 
 pub register-committed-spec : {M : Type 1} → statement M
 register-committed-spec =
@@ -151,10 +155,7 @@ register-committed-spec =
     admission-transaction-requires
     find-requires
     refusal-requires
-    returns
     enum-told
-    enum-told-2
-    returns-2
     admitted-requires
     mul-slot
     element-copy-out-slot
@@ -163,4 +164,7 @@ register-committed-spec =
     name-issued-requires
     mul-e
     element-set-from-e
+    enum-told-2
+    returns
+    returns-2
     returns-3)

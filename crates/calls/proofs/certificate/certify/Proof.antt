@@ -10,13 +10,13 @@ use Rattle.calls.proofs.certificate.certify.Statement.{statement}
 use Rattle.calls.proofs.certificate.certify.Tie as tie
 
 -- the transaction was found
-there : (c : tie.After-k) → AtSlot (c .before .before .before .before .before .args .ledger) (c .before .before .before .before .before .args .tx .0) (c .k .given .0 .0)
+there : (c : tie.After-k) → AtSlot (c .before .before .before .before .before .args .t1) (c .before .before .before .before .before .args .tx .0) (c .k .given .0 .0)
 there c =
     let s = c .before .before .before .before .before in
-    found-at (s .args .ledger) (s .pre) (s .args .tx .0) (c .k .given .0 .0) (sym (c .before .before .find .ensures) ∙ c .k .given .1)
+    found-at (s .args .t1) (s .pre) (s .args .tx .0) (c .k .given .0 .0) (sym (c .before .before .find .ensures) ∙ c .k .given .1)
 
 returns : tie.Need-returns
-returns c = let s = c .before in certify-code (s .args .ledger) (s .pre) (s .args .tx .0) (s .args .code) (omega arith)
+returns c = let s = c .before in certify-code (s .args .t1) (s .pre) (s .args .tx .0) (s .args .code) (omega arith)
 
 find-requires : tie.Need-find-requires
 find-requires c κs = search needs
@@ -27,10 +27,10 @@ enum-known-k c = search needs
 enum-told : tie.Need-enum-told
 enum-told c = search needs
 
-returns-2 : tie.Need-returns-2
-returns-2 c =
+returns-3 : tie.Need-returns-3
+returns-3 c =
     let s = c .before .before .before .before .before in
-    certify-unknown (s .args .ledger) (s .pre) (s .args .tx .0) (s .args .code) (omega arith) (sym (c .before .before .find .ensures) ∙ c .enum-told .given .1)
+    certify-unknown (s .args .t1) (s .pre) (s .args .tx .0) (s .args .code) (omega arith) (sym (c .before .before .find .ensures) ∙ c .enum-told .given .1)
 
 mul-slot : tie.Need-mul-slot
 mul-slot c = omega (arith, there (c .before) .place, c .before .before .before .before .before .before .pre .roster .room)
@@ -50,36 +50,36 @@ cast-with-certificate c = search needs
 with-certificate-requires : tie.Need-with-certificate-requires
 with-certificate-requires c κs = there (c .before .before .before) .fits _
 
-mul-f : tie.Need-mul-f
-mul-f c = omega (arith, there (c .before .before .before .before) .slot)
+mul-t16 : tie.Need-mul-t16
+mul-t16 c = omega (arith, there (c .before .before .before .before) .slot)
 
-element-set-from-f : tie.Need-element-set-from-f
-element-set-from-f c = there (c .before .before .before .before) .slot
+element-set-from-ledger : tie.Need-element-set-from-ledger
+element-set-from-ledger c = there (c .before .before .before .before) .slot
 
-returns-3 : tie.Need-returns-3
-returns-3 c =
+returns-2 : tie.Need-returns-2
+returns-2 c =
     let k = c .before .before .before .before in
     let s = k .before .before .before .before .before in
     let small : s .args .code ≤ 2 = omega arith in
     let same : s .args .code % 256 ≡ s .args .code = omega arith in
-    certify-owed (s .args .ledger) (s .pre) (s .args .tx .0) (s .args .code) small (k .k .given .0 .0) _ (c .«with-certificate» .result)
+    certify-owed (s .args .t1) (s .pre) (s .args .tx .0) (s .args .code) small (k .k .given .0 .0) _ (c .«with-certificate» .result)
     (sym (k .before .before .find .ensures) ∙ k .k .given .1) (rw same at (c .«with-certificate» .ensures))
 
 pub certify-spec : {M : Type 1} → statement M
 certify-spec =
     tie.close
     (tie.spec
-    returns
     find-requires
     enum-known-k
-    enum-told
-    returns-2
     mul-slot
     element-copy-out-slot
     mul-e
     element-copy-out-e
     cast-with-certificate
     with-certificate-requires
-    mul-f
-    element-set-from-f
+    mul-t16
+    element-set-from-ledger
+    enum-told
+    returns
+    returns-2
     returns-3)

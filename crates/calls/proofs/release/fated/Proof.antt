@@ -3,7 +3,6 @@
 use mathlib.Core.Path.{sym, _∙_}
 use native.Mathlib.Omega.{arith}
 use borrow.Author.Needs.{needs}
-use borrow.Author.Tests.{not-true, not-false}
 use Rattle.entry.specs.Entry.{plainEntry}
 use Rattle.ledger.proofs.Lift.{AtSlot, found-at}
 use Rattle.calls.proofs.Single.{fated-unknown, fated-other, fated-leg}
@@ -11,10 +10,10 @@ use Rattle.calls.proofs.release.fated.Statement.{statement}
 use Rattle.calls.proofs.release.fated.Tie as tie
 
 -- the transaction was found
-there : (c : tie.After-k) → AtSlot (c .before .before .before .before .args .ledger) (c .before .before .before .before .args .tx .0) (c .k .given .0 .0)
+there : (c : tie.After-k) → AtSlot (c .before .before .before .before .args .t1) (c .before .before .before .before .args .tx .0) (c .k .given .0 .0)
 there c =
     let s = c .before .before .before .before in
-    found-at (s .args .ledger) (s .pre) (s .args .tx .0) (c .k .given .0 .0) (sym (c .before .before .find .ensures) ∙ c .k .given .1)
+    found-at (s .args .t1) (s .pre) (s .args .tx .0) (c .k .given .0 .0) (sym (c .before .before .find .ensures) ∙ c .k .given .1)
 
 find-requires : tie.Need-find-requires
 find-requires c κs = search needs
@@ -25,10 +24,10 @@ enum-known-k c = search needs
 enum-told : tie.Need-enum-told
 enum-told c = search needs
 
-returns : tie.Need-returns
-returns c =
+returns-3 : tie.Need-returns-3
+returns-3 c =
     let s = c .before .before .before .before in
-    fated-unknown (s .args .ledger) (s .pre) (s .args .tx .0) (sym (c .before .before .find .ensures) ∙ c .enum-told .given .1)
+    fated-unknown (s .args .t1) (s .pre) (s .args .tx .0) (sym (c .before .before .find .ensures) ∙ c .enum-told .given .1)
 
 mul-slot : tie.Need-mul-slot
 mul-slot c = omega (arith, there (c .before) .place, c .before .before .before .before .before .pre .roster .room)
@@ -50,8 +49,8 @@ unfolding plainEntry
 returns-2 c =
     let k = c .before .before .before .before .before in
     let s = k .before .before .before .before in
-    fated-other (s .args .ledger) (s .pre) (s .args .tx .0) (k .k .given .0 .0) _ (sym (k .before .before .find .ensures) ∙ k .k .given .1)
-    (sym (c .before .is-leg .ensures) ∙ not-true _ (c .if1 .taken))
+    fated-other (s .args .t1) (s .pre) (s .args .tx .0) (k .k .given .0 .0) _ (sym (k .before .before .find .ensures) ∙ k .k .given .1)
+    (sym (c .before .is-leg .ensures) ∙ c .if1 .left)
 
 closed-requires : tie.Need-closed-requires
 closed-requires c κs =
@@ -61,14 +60,14 @@ closed-requires c κs =
 without-requires : tie.Need-without-requires
 without-requires c κs = search needs
 
-returns-3 : tie.Need-returns-3
+returns : tie.Need-returns
 unfolding plainEntry
-returns-3 c =
+returns c =
     let e = c .before .before .before in
     let k = e .before .before .before .before .before in
     let s = k .before .before .before .before in
-    fated-leg (s .args .ledger) (s .pre) (s .args .tx .0) (k .k .given .0 .0) _ (sym (k .before .before .find .ensures) ∙ k .k .given .1)
-    (sym (e .before .is-leg .ensures) ∙ not-false _ (e .if1 .left)) (c .before .closed .result) (c .without .result) (c .before .closed .ensures) (c .without .ensures)
+    fated-leg (s .args .t1) (s .pre) (s .args .tx .0) (k .k .given .0 .0) _ (sym (k .before .before .find .ensures) ∙ k .k .given .1)
+    (sym (e .before .is-leg .ensures) ∙ e .if1 .taken) (c .before .closed .result) (c .without .result) (c .before .closed .ensures) (c .without .ensures)
 
 pub fated-spec : {M : Type 1} → statement M
 fated-spec =
@@ -76,14 +75,14 @@ fated-spec =
     (tie.spec
     find-requires
     enum-known-k
-    enum-told
-    returns
     mul-slot
     element-copy-out-slot
     mul-e
     element-copy-out-e
     is-leg-requires
-    returns-2
     closed-requires
     without-requires
+    enum-told
+    returns
+    returns-2
     returns-3)

@@ -16,8 +16,8 @@ enum-known-k c = search needs
 enum-told : tie.Need-enum-told
 enum-told c = search needs
 
-returns : tie.Need-returns
-returns c =
+returns-2 : tie.Need-returns-2
+returns-2 c =
     let s = c .before .before .before .before in
     forget-unknown (s .args .ledger) (s .pre) (s .args .tx .0) (sym (c .before .before .find .ensures) ∙ c .enum-told .given .1)
 
@@ -29,8 +29,8 @@ closed-requires c κs =
 without-requires : tie.Need-without-requires
 without-requires c κs = search needs
 
-returns-2 : tie.Need-returns-2
-returns-2 c =
+returns : tie.Need-returns
+returns c =
     let s = c .before .before .before .before .before .before .before .before in
     let k = c .before .before .before .before in
     forget-owed (s .args .ledger) (s .pre) (s .args .tx .0) (k .k .given .0 .0) (sym (k .before .before .find .ensures) ∙ k .k .given .1) (c .before .closed .result) (c .without .result) (c .before .closed .ensures) (c .without .ensures)
@@ -41,8 +41,8 @@ forget-spec =
     (tie.spec
     find-requires
     enum-known-k
-    enum-told
-    returns
     closed-requires
     without-requires
+    enum-told
+    returns
     returns-2)

@@ -3,80 +3,83 @@
 use Prim.Native.Nat.{ℕ}
 use mathlib.Core.Path.{_≡_, sym, _∙_}
 use mathlib.Core.Bool.{Bool, true, not, _||_}
+use mathlib.Core.List.{[]}
 use native.Mathlib.Omega.{arith}
 use lib.Dec.{leb}
 use lib.ListN.{length}
 use borrow.Author.Needs.{needs}
-use borrow.Author.Tests.{not-true, not-false}
 use Rattle.lists.specs.Lists.{has}
 use Rattle.rules.specs.Plain.{shardOf}
 use Rattle.ledger.specs.Contents.{contents}
 use Rattle.calls.specs.Terminals.{wordsRefusal}
+use Rattle.calls.proofs.Single.{unrefused}
 use Rattle.calls.proofs.Departing.{terminal-refused, terminal-full, terminal-open, terminal-dated, room, file-rises, rises-after}
 use Rattle.calls.proofs.terminal.record_terminal.Statement.{statement}
 use Rattle.calls.proofs.terminal.record_terminal.Tie as tie
 
 -- nothing is wrong with the words
-unrefused : (c : tie.Else1) → 0 ≡ wordsRefusal (c .before .before .args .shard .0) (c .before .before .args .cut .0) (c .before .before .args .stamped) (c .before .before .args .until .0)
-unrefused c = let z : 0 ≡ c .before .refusal .result = omega arith in z ∙ c .before .refusal .ensures
+well-formed : (c : tie.Then1) → 0 ≡ wordsRefusal (c .before .before .args .shard .0) (c .before .before .args .cut .0) (c .before .before .args .stamped) (c .before .before .args .until .0)
+well-formed c = let z : 0 ≡ c .before .refusal .result = omega arith in z ∙ c .before .refusal .ensures
 
 -- and there is room
-roomy : (c : tie.Else2) → has shardOf (c .before .before .before .before .before .args .shard .0) (contents (c .before .before .before .before .before .args .ledger) .departures) || not (leb 32 (length (contents (c .before .before .before .before .before .args .ledger) .departures))) ≡ true
+roomy : (c : tie.Then2) → has shardOf (c .before .before .before .before .before .args .shard .0) (contents (c .before .before .before .before .before .args .ledger) .departures) || not (leb 32 (length (contents (c .before .before .before .before .before .args .ledger) .departures))) ≡ true
 unfolding contents
-roomy c = sym (c .before .has-room .ensures) ∙ not-false _ (c .if2 .left)
+roomy c = sym (c .before .has-room .ensures) ∙ c .if2 .taken
 
 refusal-requires : tie.Need-refusal-requires
 refusal-requires c κs = search needs
 
-returns : tie.Need-returns
-returns c =
+returns-4 : tie.Need-returns-4
+returns-4 c =
     let s = c .before .before in
     terminal-refused (s .args .ledger) (s .pre) (s .args .shard .0) (s .args .cut .0) (s .args .stamped) (s .args .until .0) (c .before .refusal .result) (c .before .refusal .ensures) (omega arith)
 
 has-room-requires : tie.Need-has-room-requires
 has-room-requires c κs = search needs
 
-returns-2 : tie.Need-returns-2
+returns-3 : tie.Need-returns-3
 unfolding contents
-returns-2 c =
+returns-3 c =
     let e = c .before .before .before in
     let s = e .before .before in
-    terminal-full (s .args .ledger) (s .pre) (s .args .shard .0) (s .args .cut .0) (s .args .stamped) (s .args .until .0) (unrefused e) (sym (c .before .has-room .ensures) ∙ not-true _ (c .if2 .taken))
+    terminal-full (s .args .ledger) (s .pre) (s .args .shard .0) (s .args .cut .0) (s .args .stamped) (s .args .until .0) (well-formed e) (sym (c .before .has-room .ensures) ∙ c .if2 .left)
 
 departed-requires : tie.Need-departed-requires
 departed-requires c κs =
     let e = c .before .before .before in
     let s = e .before .before in
-    (s .pre .departures, file-rises (s .args .ledger) (s .pre), room (s .args .ledger) (s .pre) (s .args .shard .0) (s .args .cut .0) (s .args .stamped) (s .args .until .0) (unrefused e) (roomy c))
+    (s .pre .departures, file-rises (s .args .ledger) (s .pre), room (s .args .ledger) (s .pre) (s .args .shard .0) (s .args .cut .0) (s .args .stamped) (s .args .until .0) (well-formed e) (roomy c))
 
-returns-3 : tie.Need-returns-3
-returns-3 c =
+returns : tie.Need-returns
+returns c =
     let o = c .before .before in
     let e = o .before .before .before in
     let s = e .before .before in
-    terminal-open (s .args .ledger) (s .pre) (s .args .shard .0) (s .args .cut .0) (s .args .stamped) (s .args .until .0) (unrefused e) (roomy o) (omega arith) (c .before .departed .result) (c .before .departed .ensures)
+    unrefused _ 0 _ _ [] [] (omega arith)
+    (terminal-open (s .args .ledger) (s .pre) (s .args .shard .0) (s .args .cut .0) (s .args .stamped) (s .args .until .0) (well-formed e) (roomy o) (omega arith) (c .before .departed .result) (c .before .departed .ensures))
 
 stamped-requires : tie.Need-stamped-requires
 stamped-requires c κs =
     let s = c .before .before .before .before .before .before .before in
     (c .before .departed .ensures .sound, rises-after (s .args .ledger) (s .pre) (s .args .shard .0) (s .args .cut .0) (c .before .departed .result) (c .before .departed .ensures))
 
-returns-4 : tie.Need-returns-4
-returns-4 c =
+returns-2 : tie.Need-returns-2
+returns-2 c =
     let o = c .before .before .before in
     let e = o .before .before .before in
     let s = e .before .before in
-    terminal-dated (s .args .ledger) (s .pre) (s .args .shard .0) (s .args .cut .0) (s .args .stamped) (s .args .until .0) (unrefused e) (roomy o) (omega arith) (c .before .before .departed .result) (c .stamped .result) (c .before .before .departed .ensures) (c .stamped .ensures)
+    unrefused _ 0 _ _ [] [] (omega arith)
+    (terminal-dated (s .args .ledger) (s .pre) (s .args .shard .0) (s .args .cut .0) (s .args .stamped) (s .args .until .0) (well-formed e) (roomy o) (omega arith) (c .before .before .departed .result) (c .stamped .result) (c .before .before .departed .ensures) (c .stamped .ensures))
 
 pub record-terminal-spec : {M : Type 1} → statement M
 record-terminal-spec =
     tie.close
     (tie.spec
     refusal-requires
-    returns
     has-room-requires
-    returns-2
     departed-requires
-    returns-3
     stamped-requires
+    returns
+    returns-2
+    returns-3
     returns-4)
