@@ -36,15 +36,9 @@ use Rattle.ledger.specs.declared.Ledger.{Ledger}
 use Rattle.ledger.specs.Contents.{contents, Held}
 use Rattle.ledger.specs.Meets.{Meets}
 use Rattle.ledger.proofs.Lift.{withParts, entries-length, found-at, not-found, taken-in}
-use Rattle.ledger.proofs.Meeting.{refuses, passes, answers}
+use Rattle.ledger.proofs.Meeting.{refuses, passes, answers, good-after, says, saysNo}
 use Rattle.calls.specs.Naming.{Nameable, withPairs}
 use Rattle.calls.specs.Refusals.{wordsRefusal, roomRefusal, tableRefusal}
-use Rattle.calls.proofs.Single.{says, saysNo, good-after}
-
--- numbers that are words each are words all
-pub all-words : (l : List ℕ) → ((i : ℕ) → i < length l → getD l i 0 < 2 ^ 64) → Every (Holds isWord) l
-all-words [] f = tt
-all-words (x ∷ l) f = (lt-ltb x (2 ^ 64) (f 0 (omega arith)), all-words l (λ i h. f (suc i) (omega arith)))
 
 -- the lines that words decide, from the top
 module _ (ws : List ℕ) where

@@ -27,42 +27,9 @@ use Rattle.ledger.specs.declared.Ledger.{Ledger}
 use Rattle.ledger.specs.declared.Done.{Done}
 use Rattle.ledger.specs.Contents.{contents, Held}
 use Rattle.ledger.specs.Meets.{Meets}
-use Rattle.ledger.proofs.Lift.{Became}
-use Rattle.ledger.proofs.Meeting.{refuses, passes, silent}
-use Rattle.calls.specs.Terminals.{isUntil, wordsRefusal}
-use Rattle.calls.proofs.Single.{says, saysNo, good-after}
-
-abbrev pub withFile : Ledger → Departures → Ledger
-withFile l x =
-    record {
-      local = l .local;
-      validity = l .validity;
-      «core_span» = l .«core_span»;
-      «leg_span» = l .«leg_span»;
-      rebuilt = l .rebuilt;
-      roster = l .roster;
-      entries = l .entries;
-      issuers = l .issuers;
-      departures = x;
-    }
-
-pub filed : (l : Ledger) → Held l → (ds : List plain.Departure) (x : Departures) → departures.Holds ds x → Good (withDepartures ds (contents l)) →
-    Became (withDepartures ds (contents l)) (withFile l x)
-unfolding contents index
-filed l h ds x f g =
-    record {
-      held =
-          record {
-            roster = h .roster;
-            keyed = h .keyed;
-            slots = h .slots;
-            fits = h .fits;
-            issuers = h .issuers;
-            departures = f .sound;
-            good = rw (f .file) g;
-          };
-      holds = rw (f .file);
-    }
+use Rattle.ledger.proofs.Lift.{Became, filed, withFile}
+use Rattle.ledger.proofs.Meeting.{refuses, passes, silent, good-after, says, saysNo}
+use Rattle.calls.specs.Terminals.{isUntil, wordsRefusal, filedAs}
 
 module _ (l : Ledger) (h : Held l) (shard : ℕ) where
   -- Stamp.
@@ -145,26 +112,24 @@ module _ (l : Ledger) (h : Held l) (shard : ℕ) where
           go true g = g .departureCount
           go false g = omega (arith, g .departureCount, length-changeIf (at shardOf shard) (stamped until) (departed shard cut (contents l .departures)))
 
-      -- one way or the other, the file is what the call says
-      on-file : (ds : List plain.Departure) (x : Departures) → departures.Holds ds x →
-          cond (eqb isStamped 0) (departed shard cut (contents l .departures)) (change shardOf shard (stamped until) (departed shard cut (contents l .departures))) ≡ ds →
+      pub terminal-filed : (x : Departures) → departures.Holds (filedAs shard cut isStamped until (onFile (l .departures))) x →
           Meets (afterTerminal shard cut isStamped until (contents l)) [] [] (says 0 (withFile l x))
-      unfolding afterTerminal
-      on-file ds x f s =
+      unfolding afterTerminal contents
+      terminal-filed x f =
           passes (terminalRefusal shard cut isStamped until (contents l)) (contents l) (done [] _) [] [] (says 0 (withFile l x)) none
-          (rw s (silent (withFile l x) _ _ (filed l h ds x f (rw s at good)) refl))
+          (silent (withFile l x) _ _ (filed l h _ x f good) refl)
 
-      pub terminal-open : isStamped ≡ 0 → (x : Departures) → departures.Holds (departed shard cut (onFile (l .departures))) x →
-          Meets (afterTerminal shard cut isStamped until (contents l)) [] [] (says 0 (withFile l x))
-      unfolding contents
-      terminal-open z x f = on-file (departed shard cut (onFile (l .departures))) x f (rw (eq-eqb isStamped 0 z))
+-- a shard put on file unstamped, and stamped
+module _ (shard cut isStamped until : ℕ) (d : Departures) where
+  pub filed-open : isStamped ≡ 0 → (x : Departures) → departures.Holds (departed shard cut (onFile d)) x → departures.Holds (filedAs shard cut isStamped until (onFile d)) x
+  filed-open z x f = rw (eq-eqb isStamped 0 z) f
 
-      pub terminal-dated : (isStamped ≡ 0 → ⊥) → (x y : Departures) → departures.Holds (departed shard cut (onFile (l .departures))) x →
-          departures.Holds (change shardOf shard (stamped until) (onFile x)) y → Meets (afterTerminal shard cut isStamped until (contents l)) [] [] (says 0 (withFile l y))
-      unfolding contents
-      terminal-dated z x y f g =
-          on-file (change shardOf shard (stamped until) (departed shard cut (onFile (l .departures)))) y
-          (record { sound = g .sound; file = g .file ∙ ap (change shardOf shard (stamped until)) (f .file) }) (rw (ne-eqb isStamped 0 z))
+  pub filed-dated : (isStamped ≡ 0 → ⊥) → (x y : Departures) → departures.Holds (departed shard cut (onFile d)) x → departures.Holds (change shardOf shard (stamped until) (onFile x)) y →
+      departures.Holds (filedAs shard cut isStamped until (onFile d)) y
+  filed-dated z x y f g = rw (ne-eqb isStamped 0 z) (record { sound = g .sound; file = g .file ∙ ap (change shardOf shard (stamped until)) (f .file) })
+
+  pub rises-after : departures.Rising d → (x : Departures) → departures.Holds (departed shard cut (onFile d)) x → departures.Rising x
+  rises-after r x f = rw (f .file) (ascending-include shardOf _ (onFile d) r)
 
 pub file-rises : (l : Ledger) → Held l → departures.Rising (l .departures)
 unfolding contents
@@ -198,6 +163,3 @@ room-known n k h = rw h
 
 pub room-new : (n m : ℕ) (k : Bool) → k ≡ false → m ≡ n → ltb n 32 ≡ k || not (leb 32 m)
 room-new n m k h e = rw (h, e) (same-test (ltb n 32) (not (leb 32 n)) (λ t. ap not (lt-leb 32 n (ltb-true n 32 t))) (λ t. lt-ltb n 32 (leb-false 32 n (not-true (leb 32 n) t))))
-
-pub rises-after : (l : Ledger) → Held l → (shard cut : ℕ) (x : Departures) → departures.Holds (departed shard cut (onFile (l .departures))) x → departures.Rising x
-rises-after l h shard cut x f = rw (f .file) (ascending-include shardOf _ (onFile (l .departures)) (file-rises l h))

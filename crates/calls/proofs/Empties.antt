@@ -23,9 +23,8 @@ use Rattle.ledger.specs.declared.Done.{Done}
 use Rattle.ledger.specs.Contents.{contents, Held}
 use Rattle.ledger.specs.Meets.{Meets}
 use Rattle.ledger.proofs.Lift.{Became}
-use Rattle.ledger.proofs.Meeting.{passes, silent}
+use Rattle.ledger.proofs.Meeting.{passes, silent, says, saysNo}
 use Rattle.calls.specs.Fresh.{Fresh}
-use Rattle.calls.proofs.Single.{says, saysNo}
 
 pub every-replicate : (n : ℕ) (e : Entry) → Fits e → Every Fits (replicate n e)
 every-replicate zero e f = tt

@@ -1,14 +1,6 @@
 pub mod Single
 pub mod Looked
-pub mod Going
 pub mod Empties
 pub mod Departing
 pub mod Named
 pub mod Admitting
-pub mod Resolving
-pub mod Several
-pub mod Listing
-pub mod Counting
-pub mod Rebuilding
-pub mod Pruning
-pub mod Reporting

@@ -36,31 +36,8 @@ use Rattle.ledger.specs.declared.Ledger.{Ledger}
 use Rattle.ledger.specs.declared.Done.{Done}
 use Rattle.ledger.specs.Contents.{contents, Held}
 use Rattle.ledger.specs.Meets.{Meets}
-use Rattle.ledger.proofs.Lift.{withParts, Became, AtSlot, found-at, not-found, changed, let-go}
-use Rattle.ledger.proofs.Meeting.{refuses, passes, answers, silent}
-
--- what a call says
-abbrev pub says : ℕ → Ledger → Done
-says n l = record { refused = 0; answer = n; fallen = 0; ledger = l }
-
-abbrev pub saysNo : ℕ → Ledger → Done
-saysNo n l = record { refused = n; answer = 0; fallen = 0; ledger = l }
-
--- a refusal's number that is 0 is none
-pub unrefused : (n m : ℕ) (l : Ledger) (o : Outcome) (a b : List ℕ) → n ≡ 0 → Meets o a b (says m l) → Meets o a b (record { refused = n; answer = m; fallen = 0; ledger = l })
-unrefused n m l o a b e w = rw e w
-
--- the ledger as it is
-stays : (l : Ledger) → Held l → (p : Plain) → contents l ≡ p → Became p l
-stays l h p e = record { held = h; holds = e }
-
--- a call that goes through leaves a good ledger
-pub good-after : (m : ℕ) (p : Plain) (o : Outcome) → m ≡ 0 → Good (unless m p o .ledger) → Good (o .ledger)
-good-after m p o e g = rw e at g
-
--- the pairs without a transaction's, from the index that the ledger holds
-pub unnamed : (l : Ledger) → Held l → (t : ℕ) (x : Issuers) → issuers.Holds (keep (isNot t) (pairsIn (l .issuers))) x → issuers.Holds (keep (isNot t) (index (contents l))) x
-unnamed l h t x i = record { sound = i .sound; pairs = i .pairs ∙ ap (keep (isNot t)) (h .issuers .pairs) }
+use Rattle.ledger.proofs.Lift.{withParts, Became, AtSlot, found-at, not-found, changed, let-go, unnamed}
+use Rattle.ledger.proofs.Meeting.{refuses, passes, answers, silent, good-after, says, saysNo, stays}
 
 -- Forget.
 module _ (l : Ledger) (h : Held l) (t : ℕ) where

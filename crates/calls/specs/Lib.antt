@@ -2,9 +2,4 @@ pub mod Fresh
 pub mod Terminals
 pub mod Naming
 pub mod Refusals
-pub mod Rulings
 pub mod Looking
-pub mod Leaving
-pub mod Closing
-pub mod Abandoned
-pub mod Pruning

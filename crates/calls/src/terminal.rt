@@ -7,10 +7,10 @@ ghost use lib.ListN.{length};
 ghost use Rattle.lists.specs.Lists.{has};
 ghost use Rattle.rules.specs.Plain.{shardOf};
 ghost use Rattle.rules.specs.Calls.{afterTerminal, afterStamp, stampRefusal};
-ghost use Rattle.store.specs.Departures.{Sound, onFile};
+ghost use Rattle.store.specs.Departures.{Sound, Rising, Holds, onFile, roomFor};
 ghost use Rattle.ledger.specs.Contents.{Held, contents};
 ghost use Rattle.ledger.specs.Meets.{Meets};
-ghost use Rattle.calls.specs.Terminals.{isUntil, wordsRefusal};
+ghost use Rattle.calls.specs.Terminals.{isUntil, wordsRefusal, filedAs};
 use ledger::Done;
 use ledger::Ledger;
 use lists::Found;
@@ -60,6 +60,19 @@ fn has_room(departures: Departures, shard: Shard) -> bool
     departures.len < 32
 }
 
+// The departures with the shard's on file, stamped or not yet.
+fn filed(departures: Departures, shard: Shard, cut: Time, stamped: u64, until: Time) -> Departures
+    requires { ⌜ Sound departures × Rising departures × roomFor departures (shard .0) (cut .0) ⌝ }
+    ensures { λ r. ⌜ Holds (filedAs (shard .0) (cut .0) stamped (until .0) (onFile departures)) r ⌝ }
+{
+    let known = departures.departed(shard, cut);
+    if stamped == 0 {
+        known
+    } else {
+        known.stamped(shard, until)
+    }
+}
+
 // The shard departed at its cut, stamped or not yet: the first cut holds, and so does the first stamp.
 pub fn record_terminal(
     mut ledger: Ledger,
@@ -75,12 +88,8 @@ pub fn record_terminal(
     if refused == 0 {
         let departures = ledger.departures;
         if has_room(departures, shard) {
-            let known = departures.departed(shard, cut);
-            if stamped == 0 {
-                ledger.departures = known;
-            } else {
-                ledger.departures = known.stamped(shard, until);
-            }
+            let known = filed(departures, shard, cut, stamped, until);
+            ledger.departures = known;
         } else {
             refused = 8;
         }

@@ -20,10 +20,6 @@ use Rattle.ledger.specs.Meets.{Meets}
 use Rattle.claim.specs.declared.Replayed.{Replayed}
 use Rattle.claim.specs.Claim.{Steps, reportsIn, PrunesAll, Equals, Clocks, Pruned}
 
--- one call, under the name that its kind gives it
-pub steps : (c d : Call) (p : Plain) (lent after : List ℕ) (r : Done) → c ≡ d → Meets (step d p) lent after r → Steps c p r
-steps c d p lent after r e m = record { held = m .held; ledger = m .ledger ∙ sym (ap (λ x. step x p .ledger) e) }
-
 pub equals : (p : Plain) (l : Ledger) → Held l → contents l ≡ p → Equals p l
 equals p l h e =
     record {

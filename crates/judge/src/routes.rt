@@ -7,7 +7,7 @@ ghost use mathlib.Core.Path.{_≡_};
 ghost use mathlib.Core.Bool.{_&&_, _||_, true, not};
 ghost use mathlib.Core.List.{List};
 ghost use lib.Dec.{eqb, ltb, leb};
-ghost use lib.ListN.{take, getD};
+ghost use lib.ListN.{take};
 ghost use Prim.Native.Nat.{ℕ, _+_, _/_, _^_, _≤_, _<_};
 ghost use Rattle.lists.specs.Lists.{filled};
 ghost use Rattle.rules.specs.Plain as plain;
@@ -150,15 +150,13 @@ fn covers_some(
     false
 }
 
-// Whether an entry needs the departure at a place of the view: its shard names the entry, or it is over a remote route of it.
-pub fn needs(e: Entry, local: Shard, v: View, j: usize) -> bool
+// Whether an entry needs a departure: its shard names the entry, or it is over a remote route of it.
+pub fn needs(e: Entry, local: Shard, shard: u64, zeros: u32, cut: u64) -> bool
     requires { ⌜ Fits e ⌝ }
     requires { ⌜ isShard (local .0) ≡ true ⌝ }
-    requires { ⌜ Sized v ⌝ }
-    requires { ⌜ j < v .len ⌝ }
-    ensures { λ r. ⌜ ((ds : List plain.Departure) (now : ℕ) (d : plain.Departure) → Shows ds now v → r ≡ holds (local .0) (getD ds j d) (plainEntry e)) ⌝ }
+    requires { ⌜ zeros < 64 ⌝ }
+    ensures { λ r. ⌜ ((d : plain.Departure) → isShard (d .shard) ≡ true → shard ≡ d .shard → zeros ≡ zerosOf d → cut ≡ d .cut → r ≡ holds (local .0) d (plainEntry e)) ⌝ }
 {
-    let shard = v.shards[j];
     if e.naming.0 == shard {
         return true;
     }
@@ -170,7 +168,7 @@ pub fn needs(e: Entry, local: Shard, v: View, j: usize) -> bool
         anchor,
         local,
         shard,
-        v.zeros[j],
-        v.cuts[j],
+        zeros,
+        cut,
     )
 }

@@ -17,7 +17,7 @@ use Rattle.lists.proofs.Distinct.{every-set, every-at, distinct-take, take-lack
 use Rattle.lists.proofs.Change.{every-get}
 use Rattle.lists.proofs.Maps.{map-set, getD-any, map-changeIf}
 use Rattle.rules.specs.Plain as plain
-use Rattle.rules.specs.Plain.{Plain, transactionOf, withEntries}
+use Rattle.rules.specs.Plain.{Plain, transactionOf, withEntries, withDepartures}
 use Rattle.rules.specs.Index.{Pair, pairKey, pairsOf, indexOf, index}
 use Rattle.rules.specs.Good.{Good, GoodEntry}
 use Rattle.rules.proofs.Named.{IsOfWord, good-words}
@@ -30,6 +30,7 @@ use Rattle.store.specs.Roster as roster
 use Rattle.store.specs.Roster.{keysOf, slotsOf, freeSlot, is, below, Opened, Closed}
 use Rattle.store.specs.Issuers as issuers
 use Rattle.store.specs.Issuers.{isNot, pairsIn}
+use Rattle.store.specs.declared.departures.Departures.{Departures}
 use Rattle.store.specs.Departures as departures
 use Rattle.ledger.specs.declared.Ledger.{Ledger}
 use Rattle.ledger.specs.Contents.{noEntry, entryIn, entriesOf, contents, Held}
@@ -223,4 +224,44 @@ let-go l h t k r ix e c i g =
             good = rw es g;
           };
       holds = rw es;
+    }
+
+-- Letting go of a transaction: the index without its pairs.
+
+-- the pairs without a transaction's, from the index that the ledger holds
+pub unnamed : (l : Ledger) → Held l → (t : ℕ) (x : Issuers) → issuers.Holds (keep (isNot t) (pairsIn (l .issuers))) x → issuers.Holds (keep (isNot t) (index (contents l))) x
+unnamed l h t x i = record { sound = i .sound; pairs = i .pairs ∙ ap (keep (isNot t)) (h .issuers .pairs) }
+
+-- Another file of departures.
+
+abbrev pub withFile : Ledger → Departures → Ledger
+withFile l x =
+    record {
+      local = l .local;
+      validity = l .validity;
+      «core_span» = l .«core_span»;
+      «leg_span» = l .«leg_span»;
+      rebuilt = l .rebuilt;
+      roster = l .roster;
+      entries = l .entries;
+      issuers = l .issuers;
+      departures = x;
+    }
+
+pub filed : (l : Ledger) → Held l → (ds : List plain.Departure) (x : Departures) → departures.Holds ds x → Good (withDepartures ds (contents l)) →
+    Became (withDepartures ds (contents l)) (withFile l x)
+unfolding contents index
+filed l h ds x f g =
+    record {
+      held =
+          record {
+            roster = h .roster;
+            keyed = h .keyed;
+            slots = h .slots;
+            fits = h .fits;
+            issuers = h .issuers;
+            departures = f .sound;
+            good = rw (f .file) g;
+          };
+      holds = rw (f .file);
     }

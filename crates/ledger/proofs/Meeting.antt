@@ -5,6 +5,7 @@ use mathlib.Core.Path.{_≡_, refl, sym, ap, _∙_}
 use mathlib.Core.List.{List, [], _∷_}
 use lib.ListN.{getD}
 use Rattle.rules.specs.Plain.{Plain}
+use Rattle.rules.specs.Good.{Good}
 use Rattle.rules.specs.Outcome.{Outcome, done, unless}
 use Rattle.ledger.specs.declared.Ledger.{Ledger}
 use Rattle.ledger.specs.declared.Done.{Done}
@@ -32,3 +33,22 @@ pub silent : (l : Ledger) (p : Plain) (r : Done) → Became p l → r ≡ record
     Meets (done [] p) [] [] r
 silent l p r b q =
     rw q (record { refused = refl; answer = refl; fallen = refl; ledger = b .holds; wrote = refl; held = b .held })
+
+-- what a call says
+abbrev pub says : ℕ → Ledger → Done
+says n l = record { refused = 0; answer = n; fallen = 0; ledger = l }
+
+abbrev pub saysNo : ℕ → Ledger → Done
+saysNo n l = record { refused = n; answer = 0; fallen = 0; ledger = l }
+
+-- a refusal's number that is 0 is none
+pub unrefused : (n m : ℕ) (l : Ledger) (o : Outcome) (a b : List ℕ) → n ≡ 0 → Meets o a b (says m l) → Meets o a b (record { refused = n; answer = m; fallen = 0; ledger = l })
+unrefused n m l o a b e w = rw e w
+
+-- the ledger as it is
+pub stays : (l : Ledger) → Held l → (p : Plain) → contents l ≡ p → Became p l
+stays l h p e = record { held = h; holds = e }
+
+-- a call that goes through leaves a good ledger
+pub good-after : (m : ℕ) (p : Plain) (o : Outcome) → m ≡ 0 → Good (unless m p o .ledger) → Good (o .ledger)
+good-after m p o e g = rw e at g

@@ -62,23 +62,6 @@ module _ {A : Type 0} (key : A → ℕ) where
       every [] = tt
       every (x ∷ m) = ((λ q. ap (λ k. eqb k u) q), every m)
 
-  -- what is got has the key
-  pub get-key : (t : ℕ) (l : List A) (x : A) → get key t l ≡ some x → key x ≡ t
-  get-key t [] x q = absurd (let z : _≡_ {A = ℕ} 0 1 = cc in omega arith)
-  get-key t (y ∷ l) x q = go (eqb (key y) t) refl q (get-key t l x)
-    where
-      go : (b : Bool) → eqb (key y) t ≡ b → cond b (some y) (get key t l) ≡ some x → (get key t l ≡ some x → key x ≡ t) → key x ≡ t
-      go true u q′ ih = let e : x ≡ y = cc in ap key e ∙ eqb-true (key y) t u
-      go false u q′ ih = ih q′
-
-  pub get-has : (t : ℕ) (l : List A) (x : A) → get key t l ≡ some x → has key t l ≡ true
-  get-has t [] x q = absurd (let z : _≡_ {A = ℕ} 0 1 = cc in omega arith)
-  get-has t (y ∷ l) x q = go (eqb (key y) t) q (get-has t l x)
-    where
-      go : (b : Bool) → cond b (some y) (get key t l) ≡ some x → (get key t l ≡ some x → has key t l ≡ true) → b || has key t l ≡ true
-      go true q′ ih = refl
-      go false q′ ih = ih q′
-
   -- what is got is one of them
   pub every-get : (P : A → Type 0) (t : ℕ) (l : List A) (x : A) → get key t l ≡ some x → Every P l → P x
   every-get P t [] x q v = absurd (let z : _≡_ {A = ℕ} 0 1 = cc in omega arith)

@@ -41,9 +41,6 @@ module _ {A : Type 0} where
   pub none-behind : (p : A → Bool) (a b : List A) → any p (a ++ b) ≡ false → any p b ≡ false
   none-behind p a b h = or-not-right (any p a) (any p b) (rw (any-append p a b) at h)
 
-  pub none-take : (p : A → Bool) (n : ℕ) (l : List A) → any p l ≡ false → any p (take n l) ≡ false
-  none-take p n l h = none-front p (take n l) (drop n l) (rw (take-append-drop n l) h)
-
   pub none-set : (p : A → Bool) (l : List A) (i : ℕ) (x : A) → any p l ≡ false → p x ≡ false → any p (set l i x) ≡ false
   none-set p [] i x h k = refl
   none-set p (y ∷ l) zero x h k = or-neither (p x) (any p l) k (or-not-right (p y) (any p l) h)
@@ -208,43 +205,11 @@ module _ {B : Type 0} (d x : B) (a : List B) where
       rw (getD-set-other a (getD ss k 0) s x d (λ e. eqb-false (getD ss k 0) s z (sym e)))
       (ap (λ m. getD a s d ∷ m) (read-stored k ss (u .1) (omega arith) r))
 
-  -- a new slot put in and stored at: its value is put in
-  pub read-inserted : (k s₀ : ℕ) (ss : List ℕ) → has self s₀ ss ≡ false → s₀ < length a →
-      map (λ s. getD (set a s₀ x) s d) (insertAt k s₀ ss) ≡ insertAt k x (map (λ s. getD a s d) ss)
-  read-inserted k s₀ ss h r =
-      rw (map-insertAt (λ s. getD (set a s₀ x) s d) k s₀ ss, getD-set-same a s₀ x d r, read-elsewhere s₀ ss h)
-
 -- keeping by flags
 module _ {A : Type 0} where
   pub keepBy-test : (p : A → Bool) (l : List A) → keepBy (map p l) l ≡ keep p l
   keepBy-test p [] = refl
   keepBy-test p (x ∷ l) = ap (consIf (p x) x) (keepBy-test p l)
-
-  -- flags past the list's end do not matter
-  pub keepBy-take : (fs : List Bool) (l : List A) → keepBy (take (length l) fs) l ≡ keepBy fs l
-  keepBy-take [] [] = refl
-  keepBy-take [] (x ∷ l) = refl
-  keepBy-take (b ∷ fs) [] = refl
-  keepBy-take (b ∷ fs) (x ∷ l) = ap (consIf b x) (keepBy-take fs l)
-
-  pub length-keepBy : (fs : List Bool) (l : List A) → length (keepBy fs l) ≤ length l
-  length-keepBy [] l = omega arith
-  length-keepBy (b ∷ fs) [] = omega arith
-  length-keepBy (true ∷ fs) (x ∷ l) = omega (arith, length-keepBy fs l)
-  length-keepBy (false ∷ fs) (x ∷ l) = omega (arith, length-keepBy fs l)
-
-  pub none-keepBy : (p : A → Bool) (fs : List Bool) (l : List A) → any p l ≡ false → any p (keepBy fs l) ≡ false
-  none-keepBy p [] l h = refl
-  none-keepBy p (b ∷ fs) [] h = refl
-  none-keepBy p (true ∷ fs) (x ∷ l) h =
-      or-neither (p x) (any p (keepBy fs l)) (or-not-left (p x) (any p l) h) (none-keepBy p fs l (or-not-right (p x) (any p l) h))
-  none-keepBy p (false ∷ fs) (x ∷ l) h = none-keepBy p fs l (or-not-right (p x) (any p l) h)
-
-  pub every-keepBy : (P : A → Type 0) (fs : List Bool) (l : List A) → Every P l → Every P (keepBy fs l)
-  every-keepBy P [] l v = tt
-  every-keepBy P (b ∷ fs) [] v = tt
-  every-keepBy P (true ∷ fs) (x ∷ l) v = (v .0, every-keepBy P fs l (v .1))
-  every-keepBy P (false ∷ fs) (x ∷ l) v = every-keepBy P fs l (v .1)
 
   -- w elements are kept in the front, and those from i up to n are still to be looked at
   abbrev pub keepingBy : List Bool → ℕ → ℕ → ℕ → List A → List A
@@ -280,12 +245,6 @@ module _ {A : Type 0} where
       (rw (add-one w, take-suc-set m w (getD a i d) (omega (arith, length-set a i (getD a w d))), take-set-le w a i (getD a w d) h))
       (rw (take-set-lt n m w (getD a i d) (omega arith), drop-set-lt (i + 1) (take n m) w (getD a i d) (omega arith), take-set-lt n a i (getD a w d) h₁)
       (drop-set-lt (i + 1) (take n a) i (getD a w d) (omega arith)))
-
-pub distinct-keepBy : (fs : List Bool) (l : List ℕ) → Distinct l → Distinct (keepBy fs l)
-distinct-keepBy [] l u = tt
-distinct-keepBy (b ∷ fs) [] u = tt
-distinct-keepBy (true ∷ fs) (x ∷ l) u = (none-keepBy (λ y. eqb y x) fs l (u .0), distinct-keepBy fs l (u .1))
-distinct-keepBy (false ∷ fs) (x ∷ l) u = distinct-keepBy fs l (u .1)
 
 -- rising numbers are distinct
 pub distinct-ascending : (l : List ℕ) → Ascending self l → Distinct l

@@ -156,3 +156,16 @@ module _ {A B : Type 0} (f : A → B) where
   pub every-map : (P : B → Type 0) (l : List A) → Every (λ x. P (f x)) l → Every P (map f l)
   every-map P [] v = tt
   every-map P (x ∷ l) v = (v .0, every-map P l (v .1))
+
+-- two tests, one after the other, are one
+pub keep-and : {A : Type 0} (p q : A → Bool) (l : List A) → keep q (keep p l) ≡ keep (λ x. p x && q x) l
+keep-and p q [] = refl
+keep-and p q (x ∷ l) = go (p x) (q x) refl (keep-and p q l)
+  where
+    go : (a b : Bool) → q x ≡ b → keep q (keep p l) ≡ keep (λ x. p x && q x) l → keep q (consIf a x (keep p l)) ≡ consIf (a && b) x (keep (λ x. p x && q x) l)
+    go true b e ih = rw e (ap (consIf b x) ih)
+    go false b e ih = ih
+
+pub keep-all : {A : Type 0} (l : List A) → keep (λ x. true) l ≡ l
+keep-all [] = refl
+keep-all (x ∷ l) = ap (λ m. x ∷ m) (keep-all l)

@@ -84,12 +84,6 @@ rest-end a i n h₁ h₂ = drop-of-length-le (take n a) {i = i} (omega (arith, l
 
 -- a sum: s + total f (what is to come) stays
 
-pub total-one : {A : Type 0} (f : A → ℕ) (d : A) (a : List A) (s i n : ℕ) → i < n → n ≤ length a → s + f (getD a i d) + total f (drop (i + 1) (take n a)) ≡ s + total f (drop i (take n a))
-total-one f d a s i n h₁ h₂ = rw (rest-cons d a i n h₁ h₂) (omega arith)
-
-pub total-end : {A : Type 0} (f : A → ℕ) (a : List A) (s i n : ℕ) → n ≤ i → n ≤ length a → s + total f (drop i (take n a)) ≡ s
-total-end f a s i n h₁ h₂ = rw (rest-end a i n h₁ h₂) (omega arith)
-
 -- a test of some: any p (what is to come) stays
 
 pub any-hit : {A : Type 0} (p : A → Bool) (d : A) (a : List A) (i n : ℕ) → i < n → n ≤ length a → p (getD a i d) ≡ true → any p (drop i (take n a)) ≡ true
@@ -274,68 +268,11 @@ push-one out a d j i n h₁ h₂ h₃ =
     let e₁ : getD (take n a) i d ≡ getD a i d = getD-take n a i d h₂ in
     rw (add-one j, add-one i, take-suc-set out j (getD a i d) h₁, drop-cons (take n a) i d (omega arith), e₁, append-snoc (take j out) (getD a i d))
 
-pub push-new : {A : Type 0} (a : List A) (e : A) (k n : ℕ) → k ≤ n → n ≤ length a → k < length a → take (k + 1) (set a k e) ++ drop k (take n a) ≡ insertAt k e (take n a)
-push-new a e k n h₁ h₂ h₃ = rw (add-one k, take-suc-set a k e h₃, append-snoc (take k a) e, take-take k n a h₁)
-
-pub push-end : {A : Type 0} (out a : List A) (i n : ℕ) → n ≤ i → n ≤ length a → take (i + 1) out ++ drop i (take n a) ≡ take (i + 1) out
-push-end out a i n h h₃ = rw (drop-of-length-le (take n a) {i = i} (omega (arith, length-take-le n a h₃))) (simp append-nil)
-
 -- keeping: w elements are kept, and those from i up to n are still to be looked at
 
 abbrev pub keeping : {A : Type 0} → (A → Bool) → ℕ → ℕ → ℕ → List A → List A
 keeping p w i n a = take w a ++ keep p (drop i (take n a))
 
-pub keep-one : {A : Type 0} (p : A → Bool) (d : A) (a : List A) (w i n : ℕ) → w ≤ i → i < n → n ≤ length a → p (getD a i d) ≡ true → keeping p (w + 1) (i + 1) n (set a w (getD a i d)) ≡ keeping p w i n a
-keep-one p d a w i n h₁ h₂ h₃ t =
-    let e₀ : length (take n a) ≡ n = length-take-le n a h₃ in
-    let e₁ : getD (take n a) i d ≡ getD a i d = getD-take n a i d h₂ in
-    rw (add-one w, add-one i, take-suc-set a w (getD a i d) (omega arith), take-set-lt n a w (getD a i d) (omega arith), drop-set-lt (suc i) (take n a) w (getD a i d) (omega arith), drop-cons (take n a) i d (omega arith), e₁, t, append-snoc (take w a) (getD a i d))
-
-pub drop-one : {A : Type 0} (p : A → Bool) (d : A) (a : List A) (w i n : ℕ) → i < n → n ≤ length a → p (getD a i d) ≡ false → keeping p w (i + 1) n a ≡ keeping p w i n a
-drop-one p d a w i n h₂ h₃ t =
-    let e₀ : length (take n a) ≡ n = length-take-le n a h₃ in
-    let e₁ : getD (take n a) i d ≡ getD a i d = getD-take n a i d h₂ in
-    rw (add-one i, drop-cons (take n a) i d (omega arith), e₁, t)
-
-pub keep-end : {A : Type 0} (p : A → Bool) (a : List A) (w i n : ℕ) → n ≤ i → n ≤ length a → keeping p w i n a ≡ take w a
-keep-end p a w i n h h₃ = rw (drop-of-length-le (take n a) {i = i} (omega (arith, length-take-le n a h₃))) (simp append-nil)
-
 -- the same from one array, which is not written, into another
 
-abbrev pub picking : {A : Type 0} → (A → Bool) → ℕ → ℕ → ℕ → List A → List A → List A
-picking p w i n a out = take w out ++ keep p (drop i (take n a))
-
-pub pick-one : {A : Type 0} (p : A → Bool) (d : A) (a out : List A) (w i n : ℕ) → w < length out → i < n → n ≤ length a → p (getD a i d) ≡ true → picking p (w + 1) (i + 1) n a (set out w (getD a i d)) ≡ picking p w i n a out
-pick-one p d a out w i n h₁ h₂ h₃ t =
-    let e₀ : length (take n a) ≡ n = length-take-le n a h₃ in
-    let e₁ : getD (take n a) i d ≡ getD a i d = getD-take n a i d h₂ in
-    rw (add-one w, add-one i, take-suc-set out w (getD a i d) h₁, drop-cons (take n a) i d (omega arith), e₁, t, append-snoc (take w out) (getD a i d))
-
-pub pick-none : {A : Type 0} (p : A → Bool) (d : A) (a out : List A) (w i n : ℕ) → i < n → n ≤ length a → p (getD a i d) ≡ false → picking p w (i + 1) n a out ≡ picking p w i n a out
-pick-none p d a out w i n h₂ h₃ t =
-    let e₀ : length (take n a) ≡ n = length-take-le n a h₃ in
-    let e₁ : getD (take n a) i d ≡ getD a i d = getD-take n a i d h₂ in
-    rw (add-one i, drop-cons (take n a) i d (omega arith), e₁, t)
-
-pub pick-end : {A : Type 0} (p : A → Bool) (a out : List A) (w i n : ℕ) → n ≤ i → n ≤ length a → picking p w i n a out ≡ take w out
-pick-end p a out w i n h h₃ = rw (drop-of-length-le (take n a) {i = i} (omega (arith, length-take-le n a h₃))) (simp append-nil)
-
 -- saying: what f says of those of the first n of a, from i on, that pass the test
-
-abbrev pub saying : {A B : Type 0} → (A → List B) → (A → Bool) → ℕ → ℕ → List A → List B
-saying f p i n a = concatMap f (keep p (drop i (take n a)))
-
-pub say-one : {A B : Type 0} (f : A → List B) (p : A → Bool) (d : A) (a : List A) (i n : ℕ) → i < n → n ≤ length a → p (getD a i d) ≡ true → saying f p i n a ≡ f (getD a i d) ++ saying f p (i + 1) n a
-say-one f p d a i n h₁ h₂ t =
-    let e₀ : length (take n a) ≡ n = length-take-le n a h₂ in
-    let e₁ : getD (take n a) i d ≡ getD a i d = getD-take n a i d h₁ in
-    rw (add-one i, drop-cons (take n a) i d (omega arith), e₁, t)
-
-pub say-none : {A B : Type 0} (f : A → List B) (p : A → Bool) (d : A) (a : List A) (i n : ℕ) → i < n → n ≤ length a → p (getD a i d) ≡ false → saying f p i n a ≡ saying f p (i + 1) n a
-say-none f p d a i n h₁ h₂ t =
-    let e₀ : length (take n a) ≡ n = length-take-le n a h₂ in
-    let e₁ : getD (take n a) i d ≡ getD a i d = getD-take n a i d h₁ in
-    rw (add-one i, drop-cons (take n a) i d (omega arith), e₁, t)
-
-pub say-end : {A B : Type 0} (f : A → List B) (p : A → Bool) (a : List A) (i n : ℕ) → n ≤ i → n ≤ length a → saying f p i n a ≡ []
-say-end f p a i n h₁ h₂ = rw (drop-of-length-le (take n a) {i = i} (omega (arith, length-take-le n a h₂)))

@@ -27,9 +27,6 @@ first-put a b l s =
     includeAll-append self a b l
     ∙ includeAll-swap self Any (λ x y u v e. e) a b l (every-always Any (λ x. tt) a) (every-always Any (λ x. tt) b) s
 
-pub first-one : (x : ℕ) (b l : List ℕ) → Ascending self l → includeAll self (x ∷ b) l ≡ includeAll self b (include self x l)
-first-one x b l s = first-put (x ∷ []) b l s
-
 -- rising numbers are their own set
 pub set-of-rising : (l : List ℕ) → Ascending self l → setOf l ≡ l
 set-of-rising [] a = refl

@@ -18,22 +18,6 @@ module _ {A B C : Type 0} (f : A → B → C) where
   length-zip (x ∷ xs) [] h = absurd (omega arith)
   length-zip (x ∷ xs) (y ∷ ys) h = ap suc (length-zip xs ys (omega arith))
 
-  pub drop-zip : (i : ℕ) (xs : List A) (ys : List B) → drop i (zipBy f xs ys) ≡ zipBy f (drop i xs) (drop i ys)
-  drop-zip zero xs ys = refl
-  drop-zip (suc i) [] ys = refl
-  drop-zip (suc i) (x ∷ xs) [] = go (drop i xs)
-    where
-      go : (m : List A) → [] ≡ zipBy f m []
-      go [] = refl
-      go (z ∷ m) = refl
-  drop-zip (suc i) (x ∷ xs) (y ∷ ys) = drop-zip i xs ys
-
-  pub take-zip : (i : ℕ) (xs : List A) (ys : List B) → take i (zipBy f xs ys) ≡ zipBy f (take i xs) (take i ys)
-  take-zip zero xs ys = refl
-  take-zip (suc i) [] ys = refl
-  take-zip (suc i) (x ∷ xs) [] = refl
-  take-zip (suc i) (x ∷ xs) (y ∷ ys) = ap (λ m. f x y ∷ m) (take-zip i xs ys)
-
   pub getD-zip : (i : ℕ) (a : A) (b : B) (c : C) (xs : List A) (ys : List B) → i < length xs → i < length ys →
       getD (zipBy f xs ys) i c ≡ f (getD xs i a) (getD ys i b)
   getD-zip i a b c [] ys h k = absurd (omega arith)

@@ -56,7 +56,7 @@ module _ (local : ℕ) (e : Entry) (g : GoodEntry local e) where
         part = g .part;
       }
 
-  naming-good : (shard : ℕ) → isNaming shard ≡ true → GoodEntry local (withNaming shard e)
+  pub naming-good : (shard : ℕ) → isNaming shard ≡ true → GoodEntry local (withNaming shard e)
   naming-good shard n =
       record {
         terms = g .terms;
@@ -144,7 +144,7 @@ pub record GoodEntries (local : ℕ) (es : List Entry) : Type 0 where
   pub order : Ascending transactionOf es
 
 -- the ledger with other entries
-with-entries : (p : Plain) (es : List Entry) → Good p → length es ≤ maxEntries → GoodEntries (p .local) es → Good (withEntries es p)
+pub with-entries : (p : Plain) (es : List Entry) → Good p → length es ≤ maxEntries → GoodEntries (p .local) es → Good (withEntries es p)
 with-entries p es g n h =
     record {
       local = g .local;
@@ -176,7 +176,7 @@ with-departures p ds g n h o =
       rebuilt = g .rebuilt;
     }
 
-with-rebuilt : (p : Plain) (n : ℕ) → Good p → n ≤ maxCount → Good (withRebuilt n p)
+pub with-rebuilt : (p : Plain) (n : ℕ) → Good p → n ≤ maxCount → Good (withRebuilt n p)
 with-rebuilt p n g h =
     record {
       local = g .local;
@@ -206,11 +206,11 @@ changed-good local t f es k c g =
       order = ascending-changeIf transactionOf (at transactionOf t) f k es (g .order);
     }
 
-included-good : (local : ℕ) (e : Entry) (es : List Entry) → GoodEntry local e → GoodEntries local es → GoodEntries local (include transactionOf e es)
+pub included-good : (local : ℕ) (e : Entry) (es : List Entry) → GoodEntry local e → GoodEntries local es → GoodEntries local (include transactionOf e es)
 included-good local e es h g =
     record { each = every-include transactionOf (GoodEntry local) e es h (g .each); order = ascending-include transactionOf e es (g .order) }
 
-entries-of : (p : Plain) → Good p → GoodEntries (p .local) (p .entries)
+pub entries-of : (p : Plain) → Good p → GoodEntries (p .local) (p .entries)
 entries-of p g = record { each = g .entries; order = g .entryOrder }
 
 -- the ledger with entries kept, or with one changed
@@ -218,7 +218,7 @@ keeps : (p : Plain) (q : Entry → Bool) → Good p → Good (withEntries (keep 
 keeps p q g =
     with-entries p (keep q (p .entries)) g (omega (arith, g .entryCount, length-keep q (p .entries))) (kept-good (p .local) q (p .entries) (entries-of p g))
 
-changes : (p : Plain) (t : ℕ) (f : Entry → Entry) → ((e : Entry) → transactionOf (f e) ≡ transactionOf e) →
+pub changes : (p : Plain) (t : ℕ) (f : Entry → Entry) → ((e : Entry) → transactionOf (f e) ≡ transactionOf e) →
     ((e : Entry) → get transactionOf t (p .entries) ≡ some e → GoodEntry (p .local) e → GoodEntry (p .local) (f e)) → Good p → Good (withEntries (change transactionOf t f (p .entries)) p)
 changes p t f k c g =
     with-entries p (change transactionOf t f (p .entries)) g (omega (arith, g .entryCount, length-changeIf (at transactionOf t) f (p .entries)))
@@ -350,7 +350,7 @@ certify-kept t code p g =
     let c : code ≤ 2 = ltb-false 2 code (passed (ltb 2 code) 4 0 e .0) in
     changes p t (certified code) (λ x. refl) (λ x _ h. certified-good (p .local) x h code c) g
 
-naming-shard : (n : ℕ) → isShard n ≡ true → isNaming n ≡ true
+pub naming-shard : (n : ℕ) → isShard n ≡ true → isNaming n ≡ true
 naming-shard zero h = refl
 naming-shard (suc n) h = h
 

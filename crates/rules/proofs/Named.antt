@@ -81,11 +81,6 @@ pub index-names : (p : Plain) → Good p → (r t : ℕ) → names (index p) r t
 unfolding index
 index-names p g r t = indexOf-names (p .local) (p .entries) (good-words g) r t
 
--- no record stands there without its transaction
-pub lists-owed : (p : Plain) (r t : ℕ) → listsRecord p r t ≡ true → owed t p ≡ true
-lists-owed p r t h =
-    any-more _ (at transactionOf t) (λ e v. and-left (eqb (transactionOf e) t) (issues (p .local) r (e .terms)) v) (p .entries) h
-
 -- as many pairs at most as there are edges
 indexOf-size : (local : ℕ) (es : List Entry) → Every (λ e. length (e .terms .edges) ≤ maxEdges) es →
     length (indexOf local es) ≤ maxEdges * length es

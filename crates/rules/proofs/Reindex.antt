@@ -36,12 +36,6 @@ pub indexOf-without : (local t : ℕ) (es : List Entry) → Every IsOfWord es �
     keep (λ q. not (eqb (q .transaction) t)) (indexOf local es) ≡ indexOf local (without transactionOf t es)
 indexOf-without local t es v = indexOf-keep local (λ u. not (eqb u t)) es v
 
--- by any test of entries, where each transaction has one entry
-pub indexOf-kept : (local : ℕ) (p : Entry → Bool) (es : List Entry) → Ascending transactionOf es → Every IsOfWord es →
-    keep (λ q. has transactionOf (q .transaction) (keep p es)) (indexOf local es) ≡ indexOf local (keep p es)
-indexOf-kept local p es a v =
-    indexOf-keep local (λ t. has transactionOf t (keep p es)) es v ∙ ap (indexOf local) (keep-by-key transactionOf p es a)
-
 -- Taking in: a transaction that is not owed adds its own pairs.
 pub indexOf-include : (local : ℕ) (e : Entry) (es : List Entry) → IsOfWord e → Every IsOfWord es →
     has transactionOf (transactionOf e) es ≡ false →

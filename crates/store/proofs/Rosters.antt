@@ -19,6 +19,3 @@ free-slot r s h = (
 
 pub slot-within : (r : Roster) (k : ℕ) → Sound r → k < r .len → getD (r .slots) k 0 < 48
 slot-within r k s h = every-at (λ x. x < 48) 0 k (r .slots) (omega (arith, s .slotLength, s .room)) (s .within)
-
-pub slots-distinct : (r : Roster) → Sound r → Distinct (slotsOf r)
-slots-distinct r s = distinct-take (r .len) (r .slots) (s .distinct)

@@ -2,7 +2,8 @@
 ghost use mathlib.Core.Path.{_≡_};
 ghost use Prim.Native.Nat.{_≤_, _<_};
 ghost use mathlib.Core.List.{[]};
-ghost use Rattle.lists.specs.Lists.{keep, include};
+ghost use lib.ListN.{take};
+ghost use Rattle.lists.specs.Lists.{keep, keepBy, include};
 ghost use Rattle.lists.specs.Arrays.{insertAt, rank};
 ghost use Rattle.rules.specs.Index.{pairKey, names};
 ghost use Rattle.store.specs.Issuers.{Sound, Rising, Holds, pairsIn, pair, isPair, isNot, roomFor, leadsPair, isBefore};
@@ -114,26 +115,41 @@ impl Issuers {
         x
     }
 
-    // Without the pairs of a transaction.
-    pub fn without(self, t: Transaction) -> Issuers
+    // Those whose flag is up, in their order.
+    pub fn kept(self, stay: [bool; 384]) -> Issuers
         requires { ⌜ Sound self ⌝ }
-        ensures { λ x. ⌜ Holds (keep (isNot (t .0)) (pairsIn self)) x ⌝ }
+        ensures { λ x. ⌜ Holds (keepBy (take (self .len) stay) (pairsIn self)) x ⌝ }
     {
         let mut x = self;
         let n = x.len;
         let mut w: usize = 0;
         let mut i: usize = 0;
         while i < n {
-            if x.transactions[i] == t.0 {
-                i += 1;
-            } else {
+            if stay[i] {
                 x.records[w] = x.records[i];
                 x.transactions[w] = x.transactions[i];
                 w += 1;
+                i += 1;
+            } else {
                 i += 1;
             }
         }
         x.len = w;
         x
+    }
+
+    // Without the pairs of a transaction.
+    pub fn without(self, t: Transaction) -> Issuers
+        requires { ⌜ Sound self ⌝ }
+        ensures { λ x. ⌜ Holds (keep (isNot (t .0)) (pairsIn self)) x ⌝ }
+    {
+        let n = self.len;
+        let mut stay = [false; 384];
+        let mut i: usize = 0;
+        while i < n {
+            stay[i] = self.transactions[i] != t.0;
+            i += 1;
+        }
+        self.kept(stay)
     }
 }

@@ -1,17 +1,19 @@
 -- What the tests of an admission's form say, row by row: which parts can be read, how long they are, and the whole from the rows.
 -- Assumes nothing.
-use Prim.Native.Nat.{ℕ, _+_, _*_, _≤_, _<_}
+use Prim.Native.Nat.{ℕ, suc, _^_, _+_, _*_, _≤_, _<_}
 use mathlib.Core.Path.{_≡_, sym, ap, _∙_}
 use mathlib.Core.Bool.{Bool, true, false, _&&_}
-use mathlib.Core.List.{List, _++_}
+use mathlib.Core.List.{List, [], _∷_, _++_}
 use native.Mathlib.Omega.{arith}
 use lib.Dec.{eqb}
-use lib.ListN.{length}
-use borrow.Author.Tests.{leb-true, eqb-true, ne-eqb}
-use Rattle.lists.specs.Lists.{allOf, total, self}
+use lib.ListN.{length, getD}
+use borrow.Author.Tests.{leb-true, eqb-true, ne-eqb, lt-ltb}
+use Rattle.lists.specs.Lists.{allOf, total, self, Every}
 use Rattle.lists.proofs.Tests.{and-left, and-right, and-true, and-false}
 use Rattle.lists.proofs.Keep.{each-of}
 use Rattle.lists.proofs.Cuts.{allOf-append, stops, goes, total-within, part-length}
+use Rattle.rules.specs.Numbers.{isWord}
+use Rattle.rules.specs.Good.{Holds}
 use Rattle.rules.specs.Words.{within, routeCount, coreCount, edgeCount, edgesAt, destinationsAt, kinds, sizes, admissionFormed}
 use Rattle.words.specs.Admission.{countTests, sizeTests, codeTests, orderTests, Counted, Sized}
 
@@ -98,3 +100,8 @@ formed-of ws h =
       exact = sized-exact ws s;
       known = each-of (codeTests ws) k .1 .0;
     }
+
+-- a list of numbers that are words wherever it is read
+pub all-words : (l : List ℕ) → ((i : ℕ) → getD l i 0 < 2 ^ 64) → Every (Holds isWord) l
+all-words [] f = tt
+all-words (x ∷ l) f = (lt-ltb x (2 ^ 64) (f 0), all-words l (λ i. f (suc i)))

@@ -73,9 +73,6 @@ module _ (ws : List ℕ) where
         ∙ zipBy-length lineOf (part 2 (lineCount ws) ws) (part (2 + lineCount ws) (lineCount ws) ws) (transactions-many ∙ sym decisions-many)
         ∙ transactions-many
 
-    pub deciding-length : length (deciding ws) ≡ decidingCount ws
-    deciding-length = ap length deciding-is ∙ part-length (2 + lineCount ws + lineCount ws) (decidingCount ws) ws (omega (arith, finalized ws f .exact))
-
     pub line-at : (i : ℕ) → i < lineCount ws → drop i (finalizationLines ws) ≡ lineAt ws i ∷ drop (i + 1) (finalizationLines ws)
     line-at i h =
         let n = lineCount ws in

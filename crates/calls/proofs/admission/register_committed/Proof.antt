@@ -13,14 +13,15 @@ use Rattle.rules.specs.Words.{admissionTerms}
 use Rattle.rules.specs.Good.{Holds}
 use Rattle.store.specs.Roster.{keysOf, is, below}
 use Rattle.store.proofs.Rosters.{free-slot}
-use Rattle.calls.proofs.Single.{unrefused}
-use Rattle.calls.proofs.Admitting.{all-words, turned-away, is-formed, skipped, is-free, nameable, admits}
+use Rattle.ledger.proofs.Meeting.{unrefused}
+use Rattle.words.proofs.Forms.{all-words}
+use Rattle.calls.proofs.Admitting.{turned-away, is-formed, skipped, is-free, nameable, admits}
 use borrow.Author.Needs.{needs}
 use Rattle.calls.proofs.admission.register_committed.Statement.{statement}
 use Rattle.calls.proofs.admission.register_committed.Tie as tie
 
 are-words : (c : tie.After-shared-slice-known) → Every (Holds isWord) (c .before .args .words .now)
-are-words c = all-words (c .before .args .words .now) (λ i h. omega (arith, c .shared-slice-known .given i))
+are-words c = all-words (c .before .args .words .now) (λ i. omega (arith, c .shared-slice-known .given i))
 
 -- what the roster says of the admission's transaction
 says : (c : tie.After-find) →

@@ -10,10 +10,10 @@ use lib.ListN.{length}
 use borrow.Author.Needs.{needs}
 use Rattle.lists.specs.Lists.{has}
 use Rattle.rules.specs.Plain.{shardOf}
+use Rattle.ledger.proofs.Meeting.{unrefused}
 use Rattle.ledger.specs.Contents.{contents}
 use Rattle.calls.specs.Terminals.{wordsRefusal}
-use Rattle.calls.proofs.Single.{unrefused}
-use Rattle.calls.proofs.Departing.{terminal-refused, terminal-full, terminal-open, terminal-dated, room, file-rises, rises-after}
+use Rattle.calls.proofs.Departing.{terminal-refused, terminal-full, terminal-filed, room, file-rises}
 use Rattle.calls.proofs.terminal.record_terminal.Statement.{statement}
 use Rattle.calls.proofs.terminal.record_terminal.Tie as tie
 
@@ -29,57 +29,36 @@ roomy c = sym (c .before .has-room .ensures) ∙ c .if2 .taken
 refusal-requires : tie.Need-refusal-requires
 refusal-requires c κs = search needs
 
-returns-4 : tie.Need-returns-4
-returns-4 c =
-    let s = c .before .before in
-    terminal-refused (s .args .ledger) (s .pre) (s .args .shard .0) (s .args .cut .0) (s .args .stamped) (s .args .until .0) (c .before .refusal .result) (c .before .refusal .ensures) (omega arith)
-
 has-room-requires : tie.Need-has-room-requires
 has-room-requires c κs = search needs
 
-returns-3 : tie.Need-returns-3
-unfolding contents
-returns-3 c =
-    let e = c .before .before .before in
-    let s = e .before .before in
-    terminal-full (s .args .ledger) (s .pre) (s .args .shard .0) (s .args .cut .0) (s .args .stamped) (s .args .until .0) (well-formed e) (sym (c .before .has-room .ensures) ∙ c .if2 .left)
-
-departed-requires : tie.Need-departed-requires
-departed-requires c κs =
+filed-requires : tie.Need-filed-requires
+filed-requires c κs =
     let e = c .before .before .before in
     let s = e .before .before in
     (s .pre .departures, file-rises (s .args .ledger) (s .pre), room (s .args .ledger) (s .pre) (s .args .shard .0) (s .args .cut .0) (s .args .stamped) (s .args .until .0) (well-formed e) (roomy c))
 
 returns : tie.Need-returns
 returns c =
-    let o = c .before .before in
+    let o = c .before in
     let e = o .before .before .before in
     let s = e .before .before in
     unrefused _ 0 _ _ [] [] (omega arith)
-    (terminal-open (s .args .ledger) (s .pre) (s .args .shard .0) (s .args .cut .0) (s .args .stamped) (s .args .until .0) (well-formed e) (roomy o) (omega arith) (c .before .departed .result) (c .before .departed .ensures))
-
-stamped-requires : tie.Need-stamped-requires
-stamped-requires c κs =
-    let s = c .before .before .before .before .before .before .before in
-    (c .before .departed .ensures .sound, rises-after (s .args .ledger) (s .pre) (s .args .shard .0) (s .args .cut .0) (c .before .departed .result) (c .before .departed .ensures))
+    (terminal-filed (s .args .ledger) (s .pre) (s .args .shard .0) (s .args .cut .0) (s .args .stamped) (s .args .until .0) (well-formed e) (roomy o) (c .filed .result) (c .filed .ensures))
 
 returns-2 : tie.Need-returns-2
+unfolding contents
 returns-2 c =
-    let o = c .before .before .before in
-    let e = o .before .before .before in
+    let e = c .before .before .before in
     let s = e .before .before in
-    unrefused _ 0 _ _ [] [] (omega arith)
-    (terminal-dated (s .args .ledger) (s .pre) (s .args .shard .0) (s .args .cut .0) (s .args .stamped) (s .args .until .0) (well-formed e) (roomy o) (omega arith) (c .before .before .departed .result) (c .stamped .result) (c .before .before .departed .ensures) (c .stamped .ensures))
+    terminal-full (s .args .ledger) (s .pre) (s .args .shard .0) (s .args .cut .0) (s .args .stamped) (s .args .until .0) (well-formed e) (sym (c .before .has-room .ensures) ∙ c .if2 .left)
+
+returns-3 : tie.Need-returns-3
+returns-3 c =
+    let s = c .before .before in
+    terminal-refused (s .args .ledger) (s .pre) (s .args .shard .0) (s .args .cut .0) (s .args .stamped) (s .args .until .0) (c .before .refusal .result) (c .before .refusal .ensures) (omega arith)
 
 pub record-terminal-spec : {M : Type 1} → statement M
 record-terminal-spec =
     tie.close
-    (tie.spec
-    refusal-requires
-    has-room-requires
-    departed-requires
-    stamped-requires
-    returns
-    returns-2
-    returns-3
-    returns-4)
+    (tie.spec refusal-requires has-room-requires filed-requires returns returns-2 returns-3)

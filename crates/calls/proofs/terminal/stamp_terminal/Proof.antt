@@ -3,7 +3,7 @@
 use mathlib.Core.Path.{_≡_, sym, _∙_}
 use mathlib.Core.List.{[]}
 use native.Mathlib.Omega.{arith}
-use Rattle.calls.proofs.Single.{unrefused}
+use Rattle.ledger.proofs.Meeting.{unrefused}
 use Rattle.calls.proofs.Departing.{stamp-refused, stamp-known, file-rises}
 use borrow.Author.Needs.{needs}
 use Rattle.calls.proofs.terminal.stamp_terminal.Statement.{statement}

@@ -1,36 +1,40 @@
--- What is kept and what is still to be looked at are what is kept of all.
+-- The flags set so far say of each pair whether it is of another transaction; all of them then say which are kept.
 -- Assumes nothing.
-use Prim.Native.Nat.{_+_, _-_, _≤_}
+use Prim.Native.Nat.{_-_, _≤_}
 use mathlib.Core.Path.{_≡_, refl, sym, ap, _∙_}
 use native.Mathlib.Omega.{arith}
-use lib.ListN.{length, getD}
-use borrow.Author.Tests.{eq-eqb, ne-eqb}
-use mathlib.Core.Bool.{true, false, not}
-use Rattle.lists.specs.Lists.{keep}
-use Rattle.lists.proofs.Loops.{keeping, keep-one, drop-one, keep-end}
-use Rattle.lists.proofs.Pairs.{zip-take, zip-length, zip-getD, zip-move}
+use mathlib.Core.Bool.{not}
+use mathlib.Core.List.{map}
+use lib.Dec.{eqb}
+use lib.ListN.{length, take, getD}
+use lib.Seq.{take-all}
+use Rattle.lists.specs.Lists.{keepBy}
+use Rattle.lists.proofs.Counting.{fill-one}
+use Rattle.lists.proofs.Distinct.{keepBy-test}
+use Rattle.lists.proofs.Zip.{pairs-at}
 use Rattle.store.specs.Issuers.{pair, pairsIn, isNot}
-use Rattle.store.proofs.Pairs.{sides, sides-front}
+use Rattle.store.proofs.Pairs.{pairs-length}
 use borrow.Author.Needs.{needs}
 use Rattle.store.proofs.issuers.Issuers.without.Statement.{statement}
 use Rattle.store.proofs.issuers.Issuers.without.Tie as tie
 
 abbrev Inv-loop : tie.InvT-loop
-Inv-loop t x₀ n w₀ i₀ x w i = (n ≡ x₀ .len) × (w ≤ i) × (i ≤ n) × (length (x .records) ≡ 384) × (length (x .transactions) ≡ 384) × (keeping (isNot (t .0)) w i (x₀ .len) (sides x) ≡ keep (isNot (t .0)) (pairsIn x₀))
+Inv-loop t self n stay₀ i₀ stay i = (i ≤ n) × (length stay ≡ 384) × (take i stay ≡ map (isNot (t .0)) (take i (pairsIn self)))
 
 abbrev μ-loop : tie.MeasureT-loop
-μ-loop t x₀ n w₀ i₀ x w i = n - i
+μ-loop t self n stay₀ i₀ stay i = n - i
 
 loop-holds : tie.Need-loop-holds Inv-loop μ-loop
-loop-holds c =
-    let r = c .pre in
-    (refl, search needs, search needs, r .recordLength, r .transactionLength, ap (keep (isNot (c .args .t .0))) (sides-front (c .args .self)))
+loop-holds c = (search needs, search needs, refl)
 
-mul-if1 : tie.Need-mul-if1 Inv-loop μ-loop
-mul-if1 c = search needs
+mul-stay : tie.Need-mul-stay Inv-loop μ-loop
+mul-stay c = search needs
 
-element-copy-out-if1 : tie.Need-element-copy-out-if1 Inv-loop μ-loop
-element-copy-out-if1 c = search needs
+element-copy-out-stay : tie.Need-element-copy-out-stay Inv-loop μ-loop
+element-copy-out-stay c = search needs
+
+array-write-stay : tie.Need-array-write-stay Inv-loop μ-loop
+array-write-stay c = search needs
 
 add-i : tie.Need-add-i Inv-loop μ-loop
 add-i c = search needs
@@ -40,77 +44,29 @@ loop-less c = search needs
 
 loop-again : tie.Need-loop-again Inv-loop μ-loop
 loop-again c =
-    let s = c .before .before .before .before .before in
-    let l = c .before .before .before .before .loop in
-    let x = l .x in
+    let s = c .before .before .before .before in
+    let l = c .before .before .before .loop in
+    let x = s .args .t1 in
     let p = isNot (s .args .t .0) in
-    let h : length (sides x) ≡ 384 = zip-length pair (x .records) (x .transactions) (omega arith) ∙ l .inv .3 in
-    let m : p (getD (sides x) (l .i) (pair 0 0)) ≡ false = ap p (zip-getD pair (x .records) (x .transactions) (l .i) 0 0 (omega arith)) ∙ ap not (eq-eqb _ _ (c .if1 .taken)) in
-    (search needs, search needs, search needs, search needs, search needs, drop-one p _ (sides x) (l .w) (l .i) (s .args .self .len) (omega arith) (omega arith) m ∙ l .inv .5)
+    let h : length (pairsIn x) ≡ x .len = pairs-length x (s .pre) in
+    let m : p (getD (pairsIn x) (l .i) (pair 0 0)) ≡ not (eqb (getD (x .transactions) (l .i) 0) (s .args .t .0)) =
+    ap p (pairs-at pair (x .records) (x .transactions) (x .len) (omega arith) (omega arith) 0 0 (pair 0 0) (l .i) (omega arith)) in
+    (search needs, search needs, fill-one p (l .stay) (pairsIn x) (l .i) (pair 0 0) _ (omega arith) (omega arith) (sym m) (l .inv .2))
 
-mul-x : tie.Need-mul-x Inv-loop μ-loop
-mul-x c = search needs
-
-element-copy-out-x : tie.Need-element-copy-out-x Inv-loop μ-loop
-element-copy-out-x c = search needs
-
-mul-x-2 : tie.Need-mul-x-2 Inv-loop μ-loop
-mul-x-2 c = search needs
-
-element-write-x : tie.Need-element-write-x Inv-loop μ-loop
-element-write-x c = search needs
-
-mul-x-3 : tie.Need-mul-x-3 Inv-loop μ-loop
-mul-x-3 c = search needs
-
-element-copy-out-x-2 : tie.Need-element-copy-out-x-2 Inv-loop μ-loop
-element-copy-out-x-2 c = search needs
-
-mul-x-4 : tie.Need-mul-x-4 Inv-loop μ-loop
-mul-x-4 c = search needs
-
-element-write-x-2 : tie.Need-element-write-x-2 Inv-loop μ-loop
-element-write-x-2 c = search needs
-
-add-w : tie.Need-add-w Inv-loop μ-loop
-add-w c = search needs
-
-add-i-2 : tie.Need-add-i-2 Inv-loop μ-loop
-add-i-2 c = search needs
-
-loop-less-2 : tie.Need-loop-less-2 Inv-loop μ-loop
-loop-less-2 c = search needs
-
-loop-again-2 : tie.Need-loop-again-2 Inv-loop μ-loop
-loop-again-2 c =
-    let s = c .before .before .before .before .before .before .before in
-    let l = c .before .before .before .before .before .before .loop in
-    let x = l .x in
-    let p = isNot (s .args .t .0) in
-    let h : length (sides x) ≡ 384 = zip-length pair (x .records) (x .transactions) (omega arith) ∙ l .inv .3 in
-    let m : p (getD (sides x) (l .i) (pair 0 0)) ≡ true = ap p (zip-getD pair (x .records) (x .transactions) (l .i) 0 0 (omega arith)) ∙ ap not (ne-eqb _ _ (c .before .before .if1 .left)) in (
-      search needs,
-      search needs,
-      search needs,
-      search needs,
-      search needs,
-      ap (keeping p (l .w + 1) (l .i + 1) (s .args .self .len)) (zip-move pair (x .records) (x .transactions) (l .w) (l .i) 0 0 (omega arith))
-          ∙ keep-one p _ (sides x) (l .w) (l .i) (s .args .self .len) (omega arith) (omega arith) (omega arith) m
-          ∙ l .inv .5,
-    )
+kept-requires : tie.Need-kept-requires Inv-loop μ-loop
+kept-requires c κs = search needs
 
 returns : tie.Need-returns Inv-loop μ-loop
 returns c =
-    let s = c .before .before in
-    let l = c .before .loop in
-    let x = l .x in
-    let h : length (sides x) ≡ 384 = zip-length pair (x .records) (x .transactions) (omega arith) ∙ l .inv .3 in
-    record {
-      sound = record { room = omega arith; recordLength = l .inv .3; transactionLength = l .inv .4 };
-      pairs = sym (zip-take pair (l .w) (x .records) (x .transactions))
-          ∙ sym (keep-end (isNot (s .args .t .0)) (sides x) (l .w) (l .i) (s .args .self .len) (omega arith) (omega arith))
-          ∙ l .inv .5;
-    }
+    let s = c .before .before .before in
+    let l = c .before .before .loop in
+    let x = s .args .t1 in
+    let p = isNot (s .args .t .0) in
+    let q : l .i ≡ x .len = omega arith in
+    let e : take (l .i) (pairsIn x) ≡ pairsIn x = take-all (l .i) (pairsIn x) (omega (arith, pairs-length x (s .pre))) in
+    let f : take (x .len) (l .stay) ≡ map p (pairsIn x) = ap (λ m. take m (l .stay)) (sym q) ∙ l .inv .2 ∙ ap (map p) e in
+    let k = c .kept .ensures in
+    record { sound = k .sound; pairs = k .pairs ∙ ap (λ m. keepBy m (pairsIn x)) f ∙ keepBy-test p (pairsIn x) }
 
 pub without-spec : {M : Type 1} → statement M
 without-spec =
@@ -119,21 +75,11 @@ without-spec =
     Inv-loop
     μ-loop
     loop-holds
-    mul-if1
-    element-copy-out-if1
+    mul-stay
+    element-copy-out-stay
+    array-write-stay
     add-i
     loop-less
     loop-again
-    mul-x
-    element-copy-out-x
-    mul-x-2
-    element-write-x
-    mul-x-3
-    element-copy-out-x-2
-    mul-x-4
-    element-write-x-2
-    add-w
-    add-i-2
-    loop-less-2
-    loop-again-2
+    kept-requires
     returns)

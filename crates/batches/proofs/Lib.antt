@@ -1,0 +1,4 @@
+pub mod Counting
+pub mod Rebuilding
+pub mod Resolving
+pub mod Going

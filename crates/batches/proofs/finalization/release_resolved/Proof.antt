@@ -1,0 +1,249 @@
+-- The invariant: where the words are not refused, the lines still to come do to the ledger in hand what all lines do to the one
+-- handed in; else nothing was done. A turn is one line of it.
+-- Assumes nothing.
+use Prim.Native.Nat.{ℕ, _+_, _-_, _<_}
+use mathlib.Core.Path.{_≡_, sym, _∙_}
+use mathlib.Core.Bool.{true}
+use mathlib.Core.List.{List}
+use native.Mathlib.Omega.{arith}
+use Rattle.rules.specs.Words.{word, lineCount, finalizationFormed}
+use Rattle.words.proofs.Lines.{Finalized, finalized}
+use Rattle.ledger.specs.declared.Ledger.{Ledger}
+use Rattle.ledger.proofs.Lift.{AtSlot, found-at}
+use Rattle.batches.proofs.Going.{Going, starts, turning, goes-on}
+use Rattle.batches.proofs.Resolving.{Resolving, resolving, formed, resolves, line-unknown, line-skip, line-turn, line-release}
+use borrow.Author.Needs.{needs}
+use Rattle.batches.proofs.finalization.release_resolved.Statement.{statement}
+use Rattle.batches.proofs.finalization.release_resolved.Tie as tie
+
+abbrev Inv-loop : tie.InvT-loop
+Inv-loop words ledger₀ refused n released₀ i₀ ledger released i = Going refused ledger₀ ledger released (Resolving ledger₀ words ledger released i)
+
+abbrev μ-loop : tie.MeasureT-loop
+μ-loop words ledger₀ refused n released₀ i₀ ledger released i = n - i
+
+-- where the turn stands among the words, which were not refused
+record Stands (l₀ : Ledger) (ws : List ℕ) (refused n : ℕ) (l : Ledger) (released i : ℕ) : Type 0 where
+  none : refused ≡ 0
+  formed : finalizationFormed ws ≡ true
+  form : Finalized ws
+  lines : n ≡ lineCount ws
+  line : i < lineCount ws
+  so : Resolving l₀ ws l released i
+
+stands : (c : tie.In-loop Inv-loop μ-loop) → Stands (c .before .before .before .before .before .args .t1) (c .before .before .before .before .before .args .words .now)
+    (c .before .before .before .refusal .result) (c .before .before .lines-of .result) (c .before .loop .ledger) (c .before .loop .released) (c .before .loop .i)
+stands c =
+    let n = c .before .before in
+    let ws = n .before .before .before .args .words .now in
+    let t = turning (n .before .refusal .result) (lineCount ws) (n .lines-of .result) (c .before .loop .i) (n .lines-of .ensures) (c .loop-test .taken) in
+    let f = formed ws (n .before .refusal .result) (n .before .refusal .ensures) (t .0) in
+    record {
+      none = t .0;
+      formed = f;
+      form = finalized ws f;
+      lines = t .1;
+      line = omega (arith, t .1, c .loop-test .taken);
+      so = c .before .loop .inv .goes (t .0);
+    }
+
+-- the transaction was found
+there : (c : tie.After-k Inv-loop μ-loop) → AtSlot (c .before .before .before .before .before .before .before .loop .ledger)
+    (word (2 + c .before .before .before .before .before .before .before .loop .i) (c .before .before .before .before .before .before .before .before .before .before .before .args .words .now))
+    (c .k .given .0 .0)
+there c =
+    let w = c .before .before .before .before .before .before in
+    found-at (w .before .loop .ledger) (stands w .so .held) _ (c .k .given .0 .0) (sym (c .before .before .find .ensures) ∙ c .k .given .1)
+
+refusal-requires : tie.Need-refusal-requires Inv-loop μ-loop
+refusal-requires c κs = search needs
+
+lines-of-requires : tie.Need-lines-of-requires Inv-loop μ-loop
+lines-of-requires c κs = search needs
+
+loop-holds : tie.Need-loop-holds Inv-loop μ-loop
+loop-holds c =
+    let s = c .before .before .before in
+    starts (c .before .refusal .result) (s .args .t1) _ (λ _. resolving (s .args .t1) (s .args .words .now) (s .pre))
+
+add-code : tie.Need-add-code Inv-loop μ-loop
+add-code c = omega (arith, stands c)
+
+mul-code : tie.Need-mul-code Inv-loop μ-loop
+mul-code c = omega (arith, stands c)
+
+shared-slice-read-code : tie.Need-shared-slice-read-code Inv-loop μ-loop
+shared-slice-read-code c = omega (arith, stands (c .before))
+
+add-code-2 : tie.Need-add-code-2 Inv-loop μ-loop
+add-code-2 c = omega (arith, stands (c .before))
+
+add-code-3 : tie.Need-add-code-3 Inv-loop μ-loop
+add-code-3 c = omega (arith, stands (c .before))
+
+mul-code-2 : tie.Need-mul-code-2 Inv-loop μ-loop
+mul-code-2 c = omega (arith, stands (c .before))
+
+shared-slice-read-code-2 : tie.Need-shared-slice-read-code-2 Inv-loop μ-loop
+shared-slice-read-code-2 c = omega (arith, stands (c .before .before))
+
+add-i : tie.Need-add-i Inv-loop μ-loop
+add-i c = omega (arith, stands (c .before .before))
+
+find-requires : tie.Need-find-requires Inv-loop μ-loop
+find-requires c κs = stands (c .before .before .before) .so .held .roster
+
+enum-known-k : tie.Need-enum-known-k Inv-loop μ-loop
+enum-known-k c = search needs
+
+enum-told : tie.Need-enum-told Inv-loop μ-loop
+enum-told c = search needs
+
+loop-less : tie.Need-loop-less Inv-loop μ-loop
+loop-less c = omega (arith, stands (c .before .before .before .before .before .before))
+
+loop-again : tie.Need-loop-again Inv-loop μ-loop
+loop-again c =
+    let o = c .before .before .before .before .before .before .before .loop in
+    let w = c .before .before .before .before .before .before in
+    let s = w .before .before in
+    let a = s .before .before .before .args in
+    goes-on (s .before .refusal .result) (a .t1) _ _ _ (stands w .none)
+    (line-unknown (a .t1) (a .words .now) (stands w .formed) (o .ledger) (o .released) (o .i) (stands w .so) (stands w .line)
+    (sym (c .before .before .find .ensures) ∙ c .enum-told .given .1))
+
+mul-slot : tie.Need-mul-slot Inv-loop μ-loop
+mul-slot c = omega (arith, there (c .before) .place, stands (c .before .before .before .before .before .before .before) .so .held .roster)
+
+element-copy-out-slot : tie.Need-element-copy-out-slot Inv-loop μ-loop
+element-copy-out-slot c = omega (arith, there (c .before) .place, stands (c .before .before .before .before .before .before .before) .so .held .roster)
+
+mul-e : tie.Need-mul-e Inv-loop μ-loop
+mul-e c = omega (arith, there (c .before .before) .slot)
+
+element-copy-out-e : tie.Need-element-copy-out-e Inv-loop μ-loop
+element-copy-out-e c = there (c .before .before) .slot
+
+rule-requires : tie.Need-rule-requires Inv-loop μ-loop
+rule-requires c κs = (stands (c .before .before .before .before .before .before .before .before .before .before) .formed, there (c .before .before .before .before) .fits _)
+
+enum-told-2 : tie.Need-enum-told-2 Inv-loop μ-loop
+enum-told-2 c = search needs
+
+loop-less-2 : tie.Need-loop-less-2 Inv-loop μ-loop
+loop-less-2 c = omega (arith, stands (c .before .before .before .before .before .before .before .before .before .before .before .before .before))
+
+loop-again-2 : tie.Need-loop-again-2 Inv-loop μ-loop
+loop-again-2 c =
+    let o = c .before .before .before .before .before .before .before .before .before .before .before .before .before .before .loop in
+    let w = c .before .before .before .before .before .before .before .before .before .before .before .before .before in
+    let s = w .before .before in
+    let a = s .before .before .before .args in
+    let k = c .before .before .before .before .before .before .before in
+    goes-on (s .before .refusal .result) (a .t1) _ _ _ (stands w .none)
+    (line-skip (a .t1) (a .words .now) (stands w .formed) (o .ledger) (o .released) (o .i) (stands w .so) (stands w .line) (k .k .given .0 .0) _
+    (sym (k .before .before .find .ensures) ∙ k .k .given .1) (s .lines-of .result) (stands w .lines) (c .before .before .rule .result) (c .before .before .rule .ensures) (c .enum-told2 .given .1))
+
+enum-told-3 : tie.Need-enum-told-3 Inv-loop μ-loop
+enum-told-3 c = search needs
+
+turned-requires : tie.Need-turned-requires Inv-loop μ-loop
+turned-requires c κs = there (c .before .before .before .before .before .before .before) .fits _
+
+mul-t32 : tie.Need-mul-t32 Inv-loop μ-loop
+mul-t32 c = omega (arith, there (c .before .before .before .before .before .before .before .before) .slot)
+
+element-set-from-ledger : tie.Need-element-set-from-ledger Inv-loop μ-loop
+element-set-from-ledger c = there (c .before .before .before .before .before .before .before .before) .slot
+
+loop-less-3 : tie.Need-loop-less-3 Inv-loop μ-loop
+loop-less-3 c = omega (arith, stands (c .before .before .before .before .before .before .before .before .before .before .before .before .before .before))
+
+loop-again-3 : tie.Need-loop-again-3 Inv-loop μ-loop
+loop-again-3 c =
+    let o = c .before .before .before .before .before .before .before .before .before .before .before .before .before .before .before .loop in
+    let w = c .before .before .before .before .before .before .before .before .before .before .before .before .before .before in
+    let s = w .before .before in
+    let a = s .before .before .before .args in
+    let k = c .before .before .before .before .before .before .before .before in
+    goes-on (s .before .refusal .result) (a .t1) _ _ _ (stands w .none)
+    (line-turn (a .t1) (a .words .now) (stands w .formed) (o .ledger) (o .released) (o .i) (stands w .so) (stands w .line) (k .k .given .0 .0) _
+    (sym (k .before .before .find .ensures) ∙ k .k .given .1) (s .lines-of .result) (stands w .lines) (c .before .before .before .rule .result) (c .before .before .before .rule .ensures) (c .before .enum-told3 .given .1) (c .turned .result) (c .turned .ensures))
+
+enum-told-4 : tie.Need-enum-told-4 Inv-loop μ-loop
+enum-told-4 c = search needs
+
+closed-requires : tie.Need-closed-requires Inv-loop μ-loop
+closed-requires c κs = (stands (c .before .before .before .before .before .before .before .before .before .before .before .before .before .before) .so .held .roster, there (c .before .before .before .before .before .before .before .before) .place)
+
+without-requires : tie.Need-without-requires Inv-loop μ-loop
+without-requires c κs = stands (c .before .before .before .before .before .before .before .before .before .before .before .before .before .before .before) .so .held .issuers .sound
+
+add-released : tie.Need-add-released Inv-loop μ-loop
+add-released c = omega (arith, stands (c .before .before .before .before .before .before .before .before .before .before .before .before .before .before .before .before) .so .few, stands (c .before .before .before .before .before .before .before .before .before .before .before .before .before .before .before .before))
+
+loop-less-4 : tie.Need-loop-less-4 Inv-loop μ-loop
+loop-less-4 c = omega (arith, stands (c .before .before .before .before .before .before .before .before .before .before .before .before .before .before .before .before))
+
+loop-again-4 : tie.Need-loop-again-4 Inv-loop μ-loop
+loop-again-4 c =
+    let o = c .before .before .before .before .before .before .before .before .before .before .before .before .before .before .before .before .before .loop in
+    let w = c .before .before .before .before .before .before .before .before .before .before .before .before .before .before .before .before in
+    let s = w .before .before in
+    let a = s .before .before .before .args in
+    let k = c .before .before .before .before .before .before .before .before .before .before in
+    goes-on (s .before .refusal .result) (a .t1) _ _ _ (stands w .none)
+    (line-release (a .t1) (a .words .now) (stands w .formed) (o .ledger) (o .released) (o .i) (stands w .so) (stands w .line) (k .k .given .0 .0) _
+    (sym (k .before .before .find .ensures) ∙ k .k .given .1) (s .lines-of .result) (stands w .lines) (c .before .before .before .before .before .rule .result) (c .before .before .before .before .before .rule .ensures) (c .before .before .before .enum-told4 .given .1) (c .before .closed .result) (c .without .result) (c .before .closed .ensures) (c .without .ensures))
+
+returns : tie.Need-returns Inv-loop μ-loop
+returns c =
+    let o = c .before .loop in
+    let n = c .before .before in
+    let s = n .before .before .before in
+    resolves (s .args .t1) (s .args .words .now) (o .ledger) (n .before .refusal .result) (n .lines-of .result) (o .released) (o .i) (s .pre) (n .before .refusal .ensures)
+    (n .lines-of .ensures) (o .inv) (c .loop-test .left)
+
+pub release-resolved-spec : {M : Type 1} → statement M
+release-resolved-spec =
+    tie.close
+    (tie.spec
+    Inv-loop
+    μ-loop
+    refusal-requires
+    lines-of-requires
+    loop-holds
+    add-code
+    mul-code
+    shared-slice-read-code
+    add-code-2
+    add-code-3
+    mul-code-2
+    shared-slice-read-code-2
+    add-i
+    find-requires
+    enum-known-k
+    enum-told
+    loop-less
+    loop-again
+    mul-slot
+    element-copy-out-slot
+    mul-e
+    element-copy-out-e
+    rule-requires
+    enum-told-2
+    loop-less-2
+    loop-again-2
+    enum-told-3
+    turned-requires
+    mul-t32
+    element-set-from-ledger
+    loop-less-3
+    loop-again-3
+    enum-told-4
+    closed-requires
+    without-requires
+    add-released
+    loop-less-4
+    loop-again-4
+    returns)

@@ -1,0 +1,145 @@
+// Finalization: what a committed block's verdicts resolve.
+ghost use mathlib.Core.Path.{_≡_};
+ghost use mathlib.Core.Bool.{true, cond, not, _&&_};
+ghost use mathlib.Core.List.{[]};
+ghost use lib.Dec.{ltb};
+ghost use Rattle.lists.specs.Lists.{has, self};
+ghost use Rattle.rules.specs.Plain.{isCore, isSettling, owes};
+ghost use Rattle.rules.specs.Calls.{finalizationRefusal, afterFinalization};
+ghost use Rattle.rules.specs.Entries.{rulingOn};
+ghost use Rattle.rules.specs.Words.{lineCount, finalizationFormed, deciding};
+ghost use Rattle.entry.specs.Entry.{plainEntry, plainPart, Fits};
+ghost use Rattle.ledger.specs.Contents.{Held, contents};
+ghost use Rattle.ledger.specs.Meets.{Meets};
+ghost use Rattle.batches.specs.Rulings.{plainRuling, decided, line};
+use entry::Entry;
+use entry::Part;
+use ledger::Done;
+use ledger::Ledger;
+use lists::Found;
+use types::Shard;
+use types::Transaction;
+use words::finalization::finalization_formed;
+use words::slices::contains;
+use words::slices::part;
+use words::slices::size_at;
+
+// What a line does with the entry that it names.
+pub enum Ruling {
+    Skip,
+    Turn,
+    Release,
+}
+
+// By a line's decision code: 1 is Accept, 2 Aborted, 3 any other. The ranges outside are refused before a line is read.
+fn decide(code: u64, is_open: bool, is_owing: bool) -> Ruling
+    ensures { λ r. ⌜ plainRuling r ≡ decided code «is_open» «is_owing» ⌝ }
+{
+    if is_open {
+        return Ruling::Skip;
+    }
+    match code {
+        1 => if is_owing {
+            Ruling::Turn
+        } else {
+            Ruling::Release
+        },
+        2..=3 => Ruling::Release,
+        0 | 4..=0xffff_ffff_ffff_ffff => Ruling::Release,
+    }
+}
+
+// Whether the transaction is among the deciding.
+fn is_deciding(words: &[u64], tx: Transaction) -> bool
+    requires { ⌜ finalizationFormed (now words) ≡ true ⌝ }
+    ensures { λ r. ⌜ r ≡ has self (tx .0) (deciding (now (words .entry))) ⌝ }
+{
+    let n = size_at(words, 0);
+    let m = size_at(words, 1);
+    contains(part(words, 2 + n + n, m), tx.0)
+}
+
+// Whether the part waits for a settlement that these lines do not decide.
+fn is_open(words: &[u64], tx: Transaction, part: Part) -> bool
+    requires { ⌜ finalizationFormed (now words) ≡ true ⌝ }
+    ensures { λ r. ⌜ r ≡ isSettling (plainPart part) && not (has self (tx .0) (deciding (now (words .entry)))) ⌝ }
+{
+    part.is_settling() && !is_deciding(words, tx)
+}
+
+// Whether it is a core with an owed edge from local.
+fn is_owing(e: Entry, local: Shard) -> bool
+    requires { ⌜ Fits e ⌝ }
+    ensures { λ r. ⌜ r ≡ isCore (plainEntry e .part) && owes (local .0) (plainEntry e .terms) ⌝ }
+{
+    let part = e.part;
+    part.is_core() && e.owes(local)
+}
+
+// What the line of a transaction and a decision code does with the transaction's entry.
+fn rule(words: &[u64], tx: Transaction, code: u64, e: Entry, local: Shard) -> Ruling
+    requires { ⌜ (finalizationFormed (now words) ≡ true) × Fits e ⌝ }
+    ensures { λ r. ⌜ plainRuling r ≡ rulingOn (local .0) (deciding (now (words .entry))) (line (tx .0) code) (plainEntry e) ⌝ }
+{
+    let part = e.part;
+    let open = is_open(words, tx, part);
+    let owing = is_owing(e, local);
+    decide(code, open, owing)
+}
+
+// How many lines there are, none where the words are refused.
+fn lines_of(words: &[u64], refused: u64) -> usize
+    ensures { λ r. ⌜ r ≡ cond (ltb 0 refused) 0 (lineCount (now (words .entry))) ⌝ }
+{
+    if 0 < refused {
+        return 0;
+    }
+    size_at(words, 0)
+}
+
+// The number by which the words are turned away, 0 for none.
+fn refusal(words: &[u64]) -> u64
+    ensures { λ r. ⌜ r ≡ finalizationRefusal (now (words .entry)) ⌝ }
+{
+    if finalization_formed(words) { 0 } else { 5 }
+}
+
+// Line by line, skips, turns to remainder or releases the entry that the line names, and answers how many were released.
+pub fn release_resolved(mut ledger: Ledger, words: &[u64]) -> Done
+    requires { ⌜ Held ledger ⌝ }
+    ensures { λ r. ⌜ Meets (afterFinalization (now (words .entry)) (contents ledger)) [] [] r ⌝ }
+{
+    let refused = refusal(words);
+    let n = lines_of(words, refused);
+    let mut released: u64 = 0;
+    let mut i: usize = 0;
+    while i < n {
+        let tx = Transaction(words[2 + i]);
+        let code = words[2 + n + i];
+        i += 1;
+        let roster = ledger.roster;
+        let Found::At(k) = roster.find(tx) else {
+            continue;
+        };
+        let slot = roster.slots[k];
+        let e = ledger.entries[slot];
+        match rule(words, tx, code, e, ledger.local) {
+            Ruling::Skip => {}
+            Ruling::Turn => {
+                ledger.entries[slot] = e.turned();
+            }
+            Ruling::Release => {
+                let issuers = ledger.issuers;
+                ledger.roster = roster.closed(k);
+                ledger.issuers = issuers.without(tx);
+                released += 1;
+            }
+        }
+    }
+    Done {
+        refused,
+        answer: released,
+        fallen: 0,
+        ledger,
+    }
+}

@@ -1,0 +1,4 @@
+pub mod Several
+pub mod Listing
+pub mod Pruning
+pub mod Reporting

@@ -1,0 +1,46 @@
+-- Several entries let go at once: flags by place in the roster say who stays.
+use Prim.Native.Nat.{ℕ}
+use mathlib.Core.Bool.{Bool, false, cond, not, _&&_, _||_}
+use mathlib.Core.List.{List, [], _∷_}
+use lib.Dec.{eqb}
+use Rattle.lists.specs.Lists.{keep}
+use Rattle.rules.specs.Index.{Pair}
+use Rattle.store.specs.declared.roster.Roster.{Roster}
+use Rattle.store.specs.declared.issuers.Issuers.{Issuers}
+use Rattle.store.specs.declared.departures.Departures.{Departures}
+use Rattle.store.specs.Issuers.{isNot}
+use Rattle.ledger.specs.declared.Ledger.{Ledger}
+
+-- the pairs without those of each transaction whose flag is down
+abbrev pub unnamedBy : List Bool → List ℕ → List Pair → List Pair
+unnamedBy [] ts ps = ps
+unnamedBy (b ∷ bs) [] ps = ps
+unnamedBy (b ∷ bs) (t ∷ ts) ps = unnamedBy bs ts (cond b ps (keep (isNot t) ps))
+
+-- whether the transaction is one of those, with its flag down
+abbrev pub isGone : List Bool → List ℕ → ℕ → Bool
+isGone [] ts t = false
+isGone (b ∷ bs) [] t = false
+isGone (b ∷ bs) (u ∷ ts) t = not b && eqb t u || isGone bs ts t
+
+-- the transaction and the code of each whose flag is down
+abbrev pub listedBy : List Bool → List ℕ → List ℕ → List ℕ
+listedBy [] ts cs = []
+listedBy (b ∷ bs) [] cs = []
+listedBy (b ∷ bs) (t ∷ ts) [] = []
+listedBy (b ∷ bs) (t ∷ ts) (c ∷ cs) = cond b (listedBy bs ts cs) (t ∷ c ∷ listedBy bs ts cs)
+
+-- the ledger with these parts in it
+abbrev pub having : Ledger → Roster → Issuers → Departures → Ledger
+having l r x d =
+    record {
+      local = l .local;
+      validity = l .validity;
+      «core_span» = l .«core_span»;
+      «leg_span» = l .«leg_span»;
+      rebuilt = l .rebuilt;
+      roster = r;
+      entries = l .entries;
+      issuers = x;
+      departures = d;
+    }
