@@ -12,6 +12,7 @@ use ledger::Done;
 use ledger::Ledger;
 use lists::Found;
 use store::issuers::Issuers;
+use store::issuers::name;
 use types::Shard;
 use types::record_key;
 use words::admission::admission_formed;
@@ -26,19 +27,25 @@ fn name_issued(issuers: Issuers, e: Entry, local: Shard) -> Issuers
     ensures { λ x. ⌜ Holds (withPairs (local .0) e issuers) x ⌝ }
 {
     let tx = e.tx;
-    let mut x = issuers;
+    let mut records = issuers.records;
+    let mut transactions = issuers.transactions;
+    let mut len = issuers.len;
     let mut i = e.edges_len as usize;
     while 0 < i {
         let j = i - 1;
         if e.froms[j] == local.0 {
             let r = record_key(e.ids[j]);
-            x = x.named(r, tx);
+            len = name(&mut records, &mut transactions, len, r, tx);
             i = j;
         } else {
             i = j;
         }
     }
-    x
+    Issuers {
+        records,
+        transactions,
+        len,
+    }
 }
 
 // The number by which the words alone turn an admission away, 0 for none.

@@ -1,8 +1,10 @@
 // The changing calls by their codes: an arm for each that there is.
-ghost use Prim.Native.Nat.{_≤_};
+ghost use mathlib.Core.Path.{_≡_};
+ghost use lib.ListN.{length};
 ghost use Rattle.ledger.specs.Contents.{Held};
-use crate::performing::NO_CALL;
-use crate::performing::fill;
+ghost use Rattle.script.specs.Parse.{Sound};
+use crate::turns::fill;
+use crate::turns::turns_of;
 use batches::abandonment::record_abandonment;
 use batches::finalization::release_resolved;
 use calls::admission::register_committed;
@@ -17,6 +19,7 @@ use calls::terminal::record_terminal;
 use calls::terminal::stamp_terminal;
 use ledger::Done;
 use ledger::Ledger;
+use script::Parsed;
 use script::calls as codes;
 use sweeps::closes::closes;
 use sweeps::prune::prune;
@@ -29,17 +32,21 @@ use types::Transaction;
 // meet. Where there is no such call, what is said stays that.
 pub fn apply(
     mut ledger: Ledger,
-    code: u8,
+    line: Parsed,
     numbers: &[u64; 2048],
-    count: usize,
     lent: &mut [u64],
-    turns: u64,
-) -> Done
-    requires { ⌜ Held ledger × (count ≤ 2048) ⌝ }
-    ensures { λ r. ⌜ Held (r .ledger) ⌝ }
+    times: u64,
+    said: &mut [u64; 3],
+) -> Ledger
+    requires { ⌜ Held ledger × Sound line × (4096 ≡ length (now lent)) ⌝ }
+    ensures { λ r. ⌜ Held r ⌝ }
 {
+    let code = line.code;
+    let n = line.lent;
+    let list = &mut lent[0..n];
+    let count = line.count;
     let all = &numbers[..];
-    let list = &all[0..count];
+    let words = &all[0..count];
     let w0 = numbers[0];
     let w1 = numbers[1];
     let w2 = numbers[2];
@@ -48,35 +55,29 @@ pub fn apply(
     let key = RecordKey(w0);
     let shard = Shard(w0);
     let time = Time(w1);
-    let mut said = [NO_CALL, 0, 0];
-    let mut left = turns;
+    let mut left = turns_of(times);
     while 0 < left {
         left -= 1;
-        fill(lent);
+        fill(list);
         match code {
-            codes::NEW => ledger = told(&mut said, making::new(shard, w1, w2, w3)),
-            codes::REGISTER_COMMITTED => ledger = told(&mut said, register_committed(ledger, list)),
-            codes::RECORD_ABSENCE => ledger = told(&mut said, absent(ledger, w0, w1, w2)),
-            codes::CERTIFY => ledger = told(&mut said, certify(ledger, tx, w1)),
-            codes::RECORD_ABANDONMENT => ledger = told(&mut said, record_abandonment(ledger, list)),
-            codes::SETTLED => ledger = told(&mut said, settled(ledger, key, Transaction(w1))),
-            codes::RETURNED => ledger = told(&mut said, returned(ledger, key, Transaction(w1))),
-            codes::CLOSES => ledger = told(&mut said, closes(ledger, lent)),
-            codes::FATED => ledger = told(&mut said, fated(ledger, tx)),
-            codes::RELEASE_RESOLVED => ledger = told(&mut said, release_resolved(ledger, list)),
-            codes::FORGET => ledger = told(&mut said, forget(ledger, tx)),
-            codes::RECORD_TERMINAL => ledger = told(&mut said, departed(ledger, w0, w1, w2, w3)),
-            codes::PRUNE => ledger = told(&mut said, prune(ledger, Time(w0), lent)),
-            codes::STAMP_TERMINAL => ledger = told(&mut said, stamp_terminal(ledger, shard, time)),
+            codes::NEW => ledger = told(said, making::new(shard, w1, w2, w3)),
+            codes::REGISTER_COMMITTED => ledger = told(said, register_committed(ledger, words)),
+            codes::RECORD_ABSENCE => ledger = told(said, absent(ledger, w0, w1, w2)),
+            codes::CERTIFY => ledger = told(said, certify(ledger, tx, w1)),
+            codes::RECORD_ABANDONMENT => ledger = told(said, record_abandonment(ledger, words)),
+            codes::SETTLED => ledger = told(said, settled(ledger, key, Transaction(w1))),
+            codes::RETURNED => ledger = told(said, returned(ledger, key, Transaction(w1))),
+            codes::CLOSES => ledger = told(said, closes(ledger, list)),
+            codes::FATED => ledger = told(said, fated(ledger, tx)),
+            codes::RELEASE_RESOLVED => ledger = told(said, release_resolved(ledger, words)),
+            codes::FORGET => ledger = told(said, forget(ledger, tx)),
+            codes::RECORD_TERMINAL => ledger = told(said, departed(ledger, w0, w1, w2, w3)),
+            codes::PRUNE => ledger = told(said, prune(ledger, Time(w0), list)),
+            codes::STAMP_TERMINAL => ledger = told(said, stamp_terminal(ledger, shard, time)),
             _ => left = 0,
         }
     }
-    Done {
-        refused: said[0],
-        answer: said[1],
-        fallen: said[2],
-        ledger,
-    }
+    ledger
 }
 
 // What the call said, put down; the ledger that it handed back.

@@ -2,14 +2,14 @@
 mod changing;
 mod dump;
 mod entries;
-mod performing;
 mod reading;
 mod replies;
+mod turns;
 
 use calls::making;
-use performing::NO_CALL;
-use script::calls::REPEAT;
-use script::calls::SKIP;
+use script::calls::DUMP;
+use script::calls::QUESTIONS;
+use turns::NO_CALL;
 use types::Shard;
 
 // Line by line to the end of the script, or to a line that is malformed or names a call that is not there. `times` is 0 unless
@@ -28,26 +28,30 @@ fn main() {
     while at < 0xffff_ffff_ffff_ffff {
         lines = script::next_line(&mut input, lines);
         if lines.found == script::AT_END {
-            script::flush(&output, out);
-            return;
+            break;
         }
         at += 1;
         let line = script::parse(&input, lines, &mut numbers);
         let code = line.code;
-        if code == SKIP {
+        if turns::is_no_call(code, times) {
+            times = turns::waiting(code, times, numbers[0]);
             continue;
         }
-        if code == REPEAT && times == 0 {
-            times = numbers[0];
-            continue;
+        let mut said = [NO_CALL, 0, 0];
+        if code < QUESTIONS {
+            ledger = changing::apply(ledger, line, &numbers, &mut lent, times, &mut said);
+        } else {
+            reading::ask(ledger, line, &numbers, &mut lent, times, &mut said);
         }
-        let done = performing::perform(ledger, line, &numbers, &mut lent, times);
-        if done.refused == NO_CALL {
+        if said[0] == NO_CALL {
             replies::stop(&mut output, out, at);
             return;
         }
-        out = replies::put_reply(&mut output, out, line, done, &lent);
-        ledger = done.ledger;
+        out = replies::put_answers(&mut output, out, code, &said);
+        if code == DUMP {
+            out = dump::put_ledger(&mut output, out, ledger);
+        }
+        out = replies::put_list(&mut output, out, line, &lent);
         times = 0;
     }
     script::flush(&output, out);

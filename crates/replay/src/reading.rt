@@ -1,12 +1,17 @@
 // The readings by their codes: an arm for each. What `dump` says is written by the reply.
+ghost use mathlib.Core.Path.{_≡_};
+ghost use lib.ListN.{length};
 ghost use Rattle.ledger.specs.Contents.{Held};
-use crate::performing::NO_CALL;
-use crate::performing::fill;
+ghost use Rattle.script.specs.Parse.{Sound};
+use crate::turns::NO_CALL;
+use crate::turns::fill;
+use crate::turns::turns_of;
 use ledger::Ledger;
 use readings::Told;
 use readings::entries;
 use readings::lookups;
 use readings::shards;
+use script::Parsed;
 use script::calls as codes;
 use types::RecordKey;
 use types::Shard;
@@ -14,17 +19,26 @@ use types::Time;
 use types::Transaction;
 
 // Each time of the same ledger.
-pub fn ask(ledger: Ledger, code: u8, numbers: &[u64; 2048], lent: &mut [u64], turns: u64) -> Told
-    requires { ⌜ Held ledger ⌝ }
+pub fn ask(
+    ledger: Ledger,
+    line: Parsed,
+    numbers: &[u64; 2048],
+    lent: &mut [u64],
+    times: u64,
+    said: &mut [u64; 3],
+)
+    requires { ⌜ Held ledger × Sound line × (4096 ≡ length (now lent)) ⌝ }
 {
-    let mut told = lookups::told(0);
-    let mut left = turns;
+    let n = line.lent;
+    let list = &mut lent[0..n];
+    let mut left = turns_of(times);
     while 0 < left {
-        fill(lent);
-        told = read(ledger, code, numbers, lent);
         left -= 1;
+        fill(list);
+        let told = read(ledger, line.code, numbers, list);
+        said[0] = told.refused;
+        said[1] = told.answer;
     }
-    told
 }
 
 // A reading that is lent a list; the others are lookups.

@@ -2,10 +2,7 @@
 ghost use mathlib.Core.Path.{_≡_};
 ghost use Prim.Native.Nat.{_≤_};
 ghost use lib.ListN.{length};
-ghost use Rattle.ledger.specs.Contents.{Held};
 ghost use Rattle.script.specs.Parse.{Sound};
-use crate::dump;
-use ledger::Done;
 use script::Out;
 use script::Parsed;
 use script::calls as codes;
@@ -20,49 +17,36 @@ fn answers_of(code: u8) -> u8 {
     }
 }
 
-// status { " " answer } [ " / " words ]
-pub fn put_reply(buf: &mut [u8; 65536], out: Out, line: Parsed, done: Done, lent: &[u64]) -> Out
-    requires { ⌜ (out .at ≤ 65536) × Sound line × Held (done .ledger) × (4096 ≡ length (now lent)) ⌝ }
+// status { " " answer }; after a refusal no answer. What `dump` says follows by itself.
+pub fn put_answers(buf: &mut [u8; 65536], out: Out, code: u8, said: &[u64; 3]) -> Out
+    requires { ⌜ out .at ≤ 65536 ⌝ }
     ensures { λ r. ⌜ r .at ≤ 65536 ⌝ }
 {
-    let mut put = script::put_number(buf, out, done.refused);
-    put = put_answers(buf, put, line.code, done);
-    put = put_list(buf, put, line, lent);
-    script::put_byte(buf, put, b'\n')
-}
-
-// Each behind a space; after a refusal none.
-fn put_answers(buf: &mut [u8; 65536], out: Out, code: u8, done: Done) -> Out
-    requires { ⌜ (out .at ≤ 65536) × Held (done .ledger) ⌝ }
-    ensures { λ r. ⌜ r .at ≤ 65536 ⌝ }
-{
-    if done.refused > 0 {
-        return out;
-    }
-    if code == codes::DUMP {
-        let ledger = done.ledger;
-        return dump::put_ledger(buf, out, ledger);
+    let put = script::put_number(buf, out, said[0]);
+    if said[0] > 0 {
+        return put;
     }
     match answers_of(code) {
-        0 => out,
-        1 => put_word(buf, out, done.answer),
+        0 => put,
+        1 => put_word(buf, put, said[1]),
         _ => {
-            let put = put_word(buf, out, done.answer);
-            put_word(buf, put, done.fallen)
+            let more = put_word(buf, put, said[1]);
+            put_word(buf, more, said[2])
         }
     }
 }
 
-// The lent list as it stands after the call, where the call takes one.
-fn put_list(buf: &mut [u8; 65536], out: Out, line: Parsed, lent: &[u64]) -> Out
+// [ " / " words ], the lent list as it stands after a call that takes one, and the line's end.
+pub fn put_list(buf: &mut [u8; 65536], out: Out, line: Parsed, lent: &[u64]) -> Out
     requires { ⌜ (out .at ≤ 65536) × Sound line × (4096 ≡ length (now lent)) ⌝ }
     ensures { λ r. ⌜ r .at ≤ 65536 ⌝ }
 {
-    if codes::takes_list(line.code) {
-        let n = line.lent;
-        return script::put_lent(buf, out, &lent[0..n]);
+    if !codes::takes_list(line.code) {
+        return script::put_byte(buf, out, b'\n');
     }
-    out
+    let n = line.lent;
+    let put = script::put_lent(buf, out, &lent[0..n]);
+    script::put_byte(buf, put, b'\n')
 }
 
 pub fn put_word(buf: &mut [u8; 65536], out: Out, word: u64) -> Out

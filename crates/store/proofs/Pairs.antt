@@ -2,6 +2,7 @@
 -- Assumes nothing.
 use Prim.Native.Nat.{ℕ}
 use mathlib.Core.Path.{_≡_, _∙_, sym, ap}
+use mathlib.Core.Bool.{Bool}
 use mathlib.Core.List.{List}
 use native.Mathlib.Omega.{arith}
 use lib.ListN.{length, take, getD}
@@ -22,8 +23,13 @@ module _ (x : Issuers) where
   pub sides-length : Sound x → length (sides x) ≡ 384
   sides-length h = zip-length pair (x .records) (x .transactions) (h .recordLength ∙ sym (h .transactionLength)) ∙ h .recordLength
 
-  pub sides-at : (i d e : ℕ) → Sound x → getD (sides x) i (pair d e) ≡ pair (getD (x .records) i d) (getD (x .transactions) i e)
+  sides-at : (i d e : ℕ) → Sound x → getD (sides x) i (pair d e) ≡ pair (getD (x .records) i d) (getD (x .transactions) i e)
   sides-at i d e h = zip-getD pair (x .records) (x .transactions) i d e (h .recordLength ∙ sym (h .transactionLength))
+
+  -- what a call says of the elements at i, it says of the pair
+  pub sides-told : (p : Pair → Bool) (i : ℕ) (r b : Bool) → Sound x → r ≡ p (pair (getD (x .records) i 0) (getD (x .transactions) i 0)) → r ≡ b →
+      p (getD (sides x) i (pair 0 0)) ≡ b
+  sides-told p i r b h e q = ap p (sides-at i 0 0 h) ∙ sym e ∙ q
 
   pub pairs-length : Sound x → length (pairsIn x) ≡ x .len
   pairs-length h = ap length (sym (sides-front x)) ∙ length-take-le (x .len) (sides x) (omega (arith, sides-length h, h .room))

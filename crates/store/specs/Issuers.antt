@@ -1,16 +1,19 @@
 -- What the issuer index holds, as pairs.
-use Prim.Native.Nat.{ℕ, _≤_}
+use Prim.Native.Nat.{ℕ, _^_, _≤_, _<_}
 use mathlib.Core.Path.{_≡_}
 use mathlib.Core.Bool.{Bool, not, _&&_, _||_}
 use mathlib.Core.List.{List}
 use lib.Dec.{eqb, ltb}
 use lib.ListN.{length, take}
-use Rattle.lists.specs.Lists.{zipBy, include, Ascending}
+use Rattle.lists.specs.Lists.{zipBy, include, Every, Ascending}
 use Rattle.rules.specs.Index.{Pair, pairKey}
 use Rattle.store.specs.declared.issuers.Issuers.{Issuers}
 
 abbrev pub pair : ℕ → ℕ → Pair
 pair r t = record { key = r; transaction = t }
+
+abbrev pub made : List ℕ → List ℕ → ℕ → Issuers
+made records transactions n = record { records = records; transactions = transactions; len = n }
 
 abbrev pub pairsIn : Issuers → List Pair
 pairsIn x = zipBy pair (take (x .len) (x .records)) (take (x .len) (x .transactions))
@@ -37,6 +40,10 @@ pub record Sound (x : Issuers) : Type 0 where
 
 abbrev pub Rising : Issuers → Type 0
 Rising x = Ascending pairKey (pairsIn x)
+
+-- its transactions are words, so that a key is of one pair
+abbrev pub Worded : Issuers → Type 0
+Worded x = Every (λ (q : Pair). q .transaction < 2 ^ 64) (pairsIn x)
 
 -- with the pair put in, the index still fits
 abbrev pub roomFor : Issuers → ℕ → ℕ → Type 0

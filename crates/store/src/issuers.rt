@@ -1,12 +1,12 @@
 // The issuer index: which owed transactions issued the record at a key, as pairs by record and then transaction, none twice.
 ghost use mathlib.Core.Path.{_≡_};
-ghost use Prim.Native.Nat.{_≤_, _<_};
+ghost use Prim.Native.Nat.{_+_, _≤_, _<_};
 ghost use mathlib.Core.List.{[]};
 ghost use lib.ListN.{take};
 ghost use Rattle.lists.specs.Lists.{keep, keepBy, include};
 ghost use Rattle.lists.specs.Arrays.{insertAt, rank};
 ghost use Rattle.rules.specs.Index.{pairKey, names};
-ghost use Rattle.store.specs.Issuers.{Sound, Rising, Holds, pairsIn, pair, isPair, isNot, roomFor, leadsPair, isBefore};
+ghost use Rattle.store.specs.Issuers.{Sound, Rising, Holds, pairsIn, pair, isPair, isNot, roomFor, leadsPair, isBefore, Worded, made};
 use types::RecordKey;
 use types::Transaction;
 
@@ -39,6 +39,92 @@ fn is_pair(a: u64, b: u64, r: u64, t: u64) -> bool
     false
 }
 
+// Whether the pair is among the first n.
+fn is_named(
+    records: &[u64; 384],
+    transactions: &[u64; 384],
+    n: usize,
+    r: RecordKey,
+    t: Transaction,
+) -> bool
+    requires { ⌜ Sound (made (now records) (now transactions) n) ⌝ }
+    ensures { λ x. ⌜ x ≡ names (pairsIn (made (now (records .entry)) (now (transactions .entry)) n)) (r .0) (t .0) ⌝ }
+{
+    let mut i: usize = 0;
+    while i < n {
+        if is_pair(records[i], transactions[i], r.0, t.0) {
+            return true;
+        }
+        i += 1;
+    }
+    false
+}
+
+// How many of the first n pairs stand before (r, t).
+fn rank(
+    records: &[u64; 384],
+    transactions: &[u64; 384],
+    n: usize,
+    r: RecordKey,
+    t: Transaction,
+) -> usize
+    requires { ⌜ Sound (made (now records) (now transactions) n) ⌝ }
+    ensures { λ x. ⌜ x ≡ rank (isBefore (r .0) (t .0)) (pairsIn (made (now (records .entry)) (now (transactions .entry)) n)) ⌝ }
+{
+    let mut i: usize = 0;
+    while i < n {
+        if leads(records[i], transactions[i], r.0, t.0) {
+            i += 1;
+        } else {
+            return i;
+        }
+    }
+    i
+}
+
+// A pair put in at k among the first n: those from k on move up by one, from the end.
+fn open(
+    records: &mut [u64; 384],
+    transactions: &mut [u64; 384],
+    n: usize,
+    k: usize,
+    r: RecordKey,
+    t: Transaction,
+)
+    requires { ⌜ Sound (made (now records) (now transactions) n) × (k ≤ n) × (n < 384) ⌝ }
+    ensures { λ x. ⌜ Holds (insertAt k (pair (r .0) (t .0)) (pairsIn (made (now (records .entry)) (now (transactions .entry)) n))) (made (now (records .exit)) (now (transactions .exit)) (n + 1)) ⌝ }
+{
+    let mut i = n;
+    while k < i {
+        let j = i - 1;
+        records[i] = records[j];
+        transactions[i] = transactions[j];
+        i = j;
+    }
+    records[k] = r.0;
+    transactions[k] = t.0;
+}
+
+// The pair put in among the first n, unless it stands already; how many there are then. The arrays are lent, so that an admission names
+// all its records in one copy of the index.
+pub fn name(
+    records: &mut [u64; 384],
+    transactions: &mut [u64; 384],
+    n: usize,
+    r: RecordKey,
+    t: Transaction,
+) -> usize
+    requires { ⌜ Sound (made (now records) (now transactions) n) × Rising (made (now records) (now transactions) n) × Worded (made (now records) (now transactions) n) × roomFor (made (now records) (now transactions) n) (r .0) (t .0) ⌝ }
+    ensures { λ x. ⌜ Holds (include pairKey (pair (r .0) (t .0)) (pairsIn (made (now (records .entry)) (now (transactions .entry)) n))) (made (now (records .exit)) (now (transactions .exit)) x) × Worded (made (now (records .exit)) (now (transactions .exit)) x) ⌝ }
+{
+    if is_named(records, transactions, n, r, t) {
+        return n;
+    }
+    let k = rank(records, transactions, n, r, t);
+    open(records, transactions, n, k, r, t);
+    n + 1
+}
+
 impl Issuers {
     pub fn new() -> Issuers
         ensures { λ x. ⌜ Holds [] x ⌝ }
@@ -50,69 +136,14 @@ impl Issuers {
         }
     }
 
-    // How many pairs stand before (r, t).
-    fn rank(self, r: RecordKey, t: Transaction) -> usize
-        requires { ⌜ Sound self ⌝ }
-        ensures { λ x. ⌜ x ≡ rank (isBefore (r .0) (t .0)) (pairsIn self) ⌝ }
-    {
-        let n = self.len;
-        let mut i: usize = 0;
-        while i < n {
-            if leads(self.records[i], self.transactions[i], r.0, t.0) {
-                i += 1;
-            } else {
-                return i;
-            }
-        }
-        i
-    }
-
     // Whether the transaction is named under the record.
     pub fn names(self, r: RecordKey, t: Transaction) -> bool
         requires { ⌜ Sound self ⌝ }
         ensures { λ x. ⌜ x ≡ names (pairsIn self) (r .0) (t .0) ⌝ }
     {
-        let n = self.len;
-        let mut i: usize = 0;
-        while i < n {
-            if is_pair(self.records[i], self.transactions[i], r.0, t.0) {
-                return true;
-            }
-            i += 1;
-        }
-        false
-    }
-
-    // The pair put in, unless it stands already.
-    pub fn named(self, r: RecordKey, t: Transaction) -> Issuers
-        requires { ⌜ Sound self × Rising self × roomFor self (r .0) (t .0) ⌝ }
-        ensures { λ x. ⌜ Holds (include pairKey (pair (r .0) (t .0)) (pairsIn self)) x ⌝ }
-    {
-        if self.names(r, t) {
-            return self;
-        }
-        let k = self.rank(r, t);
-        self.opened(k, r, t)
-    }
-
-    // The pair put in at k: those from k on move up by one, from the end.
-    fn opened(self, k: usize, r: RecordKey, t: Transaction) -> Issuers
-        requires { ⌜ Sound self × (k ≤ self .len) × (self .len < 384) ⌝ }
-        ensures { λ x. ⌜ Holds (insertAt k (pair (r .0) (t .0)) (pairsIn self)) x ⌝ }
-    {
-        let mut x = self;
-        let n = x.len;
-        let mut i = n;
-        while k < i {
-            let j = i - 1;
-            x.records[i] = x.records[j];
-            x.transactions[i] = x.transactions[j];
-            i = j;
-        }
-        x.records[k] = r.0;
-        x.transactions[k] = t.0;
-        x.len = n + 1;
-        x
+        let records = self.records;
+        let transactions = self.transactions;
+        is_named(&records, &transactions, self.len, r, t)
     }
 
     // Those whose flag is up, in their order.

@@ -2,15 +2,15 @@
 -- Assumes nothing.
 use Prim.Native.Nat.{ℕ, _+_, _≤_, _<_}
 use mathlib.Core.Path.{_≡_, refl, sym, ap, _∙_}
-use mathlib.Core.Bool.{Bool, true, false, not, _&&_, _||_}
+use mathlib.Core.Bool.{Bool, true, false, cond, not, _&&_, _||_}
 use mathlib.Core.List.{List, [], _∷_, _++_, map, List·Memᴰ, List·Memᴰ·head, List·Memᴰ·tail, append-nil}
 use native.Mathlib.Omega.{arith}
 use native.Mathlib.Numerals.{add-one}
-use borrow.Author.Tests.{eq-eqb, ne-eqb}
+use borrow.Author.Tests.{eq-eqb, ne-eqb, eqb-true, eqb-false}
 use lib.Dec.{eqb}
 use lib.ListN.{length, take, drop, getD, set, List·getD-map}
 use lib.Seq.{getD-take, take-suc-set, append-snoc}
-use Rattle.lists.specs.Lists.{consIf, keep, keepBy, Above, Ascending}
+use Rattle.lists.specs.Lists.{consIf, keep, keepBy, has, self, Above, Ascending}
 use Rattle.lists.proofs.Tests.{or-false, and-true, and-false}
 use Rattle.lists.proofs.Keep.{keep-same, keep-and, keep-all}
 use Rattle.lists.proofs.Order.{above-member}
@@ -34,7 +34,7 @@ use Rattle.store.proofs.Rosters.{slot-within}
 use Rattle.ledger.specs.declared.Ledger.{Ledger}
 use Rattle.ledger.specs.Contents.{entryIn, entriesOf, contents, Held}
 use Rattle.ledger.proofs.Lift.{withParts, Became, entries-length, entry-in}
-use Rattle.sweeps.specs.Leaving.{unnamedBy, isGone}
+use Rattle.sweeps.specs.Leaving.{unnamedBy, isGone, goneBy}
 
 -- filling an array with what f says of each: those from i on are still to come
 module _ {A B : Type 0} (f : A → B) where
@@ -64,25 +64,39 @@ module _ (l : Ledger) (h : Held l) (i : ℕ) (q : i < l .roster .len) (d : Entry
       ∙ entry-in (l .entries) (getD (l .roster .slots) i 0) d (omega (arith, h .slots, here-slot)) in
       rest-more (entryIn (l .entries) 0) (entriesOf l) i (omega (arith, entries-length l h)) ∙ ap (λ x. x ∷ drop (i + 1) (entriesOf l)) read
 
--- one turn and the end of looking for a transaction whose flag is down
-module _ (stay : List Bool) (keys : List ℕ) (t i n : ℕ) (h₂ : n ≤ length stay) (h₃ : n ≤ length keys) where
-  abbrev seeking : ℕ → Bool
-  seeking j = isGone (drop j (take n stay)) (drop j (take n keys)) t
+-- one turn and the end of putting those at the front whose flag is down; those from i on are still to come
+module _ (stay : List Bool) (keys : List ℕ) (i n : ℕ) (h₂ : n ≤ length stay) (h₃ : n ≤ length keys) where
+  abbrev coming : ℕ → List ℕ
+  coming j = goneBy (drop j (take n stay)) (drop j (take n keys))
 
-  seek-next : i < n → seeking i ≡ not (getD stay i false) && eqb t (getD keys i 0) || seeking (i + 1)
-  seek-next h₁ = rw (rest-cons false stay i n h₁ h₂, rest-cons 0 keys i n h₁ h₃)
+  pub front-stays : (all : List ℕ) (xs : List ℕ) → i < n → getD stay i false ≡ true → xs ++ coming i ≡ all → xs ++ coming (i + 1) ≡ all
+  front-stays all xs h₁ f e = ap (λ m. xs ++ m) (sym (coming-next h₁ ∙ rw f)) ∙ e
+    where
+      coming-next : i < n → coming i ≡ cond (getD stay i false) (coming (i + 1)) (getD keys i 0 ∷ coming (i + 1))
+      coming-next h = rw (rest-cons false stay i n h h₂, rest-cons 0 keys i n h h₃)
 
-  pub seek-met : i < n → getD keys i 0 ≡ t → getD stay i false ≡ false → seeking i ≡ true
-  seek-met h₁ e f = seek-next h₁ ∙ rw (f, eq-eqb t (getD keys i 0) (sym e))
+  pub front-leaves : (all out : List ℕ) (w : ℕ) → w < length out → i < n → getD stay i false ≡ false → take w out ++ coming i ≡ all →
+      take (w + 1) (set out w (getD keys i 0)) ++ coming (i + 1) ≡ all
+  front-leaves all out w h h₁ f e =
+      let next : coming i ≡ getD keys i 0 ∷ coming (i + 1) = rw (rest-cons false stay i n h₁ h₂, rest-cons 0 keys i n h₁ h₃, f) in
+      rw (add-one w, take-suc-set out w (getD keys i 0) h) (append-snoc (take w out) (getD keys i 0) (coming (i + 1)) ∙ ap (λ m. take w out ++ m) (sym next) ∙ e)
 
-  pub seek-other : i < n → (getD keys i 0 ≡ t → ⊥) → seeking (i + 1) ≡ seeking i
-  seek-other h₁ e = sym (seek-next h₁ ∙ rw (ne-eqb t (getD keys i 0) (λ q. e (sym q)), and-false (not (getD stay i false))))
+  pub front-end : (all xs : List ℕ) → n ≤ i → xs ++ coming i ≡ all → xs ≡ all
+  front-end all xs h₁ e = sym (append-nil xs) ∙ ap (λ m. xs ++ m) (sym (rw (rest-end stay i n h₁ h₂))) ∙ e
 
-  pub seek-stays : i < n → getD stay i false ≡ true → seeking (i + 1) ≡ seeking i
-  seek-stays h₁ f = sym (seek-next h₁ ∙ rw f)
+eqb-swap : (a b : ℕ) → eqb a b ≡ eqb b a
+eqb-swap a b = go (eqb a b) refl
+  where
+    go : (c : Bool) → eqb a b ≡ c → eqb a b ≡ eqb b a
+    go true e = e ∙ sym (eq-eqb b a (sym (eqb-true a b e)))
+    go false e = e ∙ sym (ne-eqb b a (λ q. eqb-false a b e (sym q)))
 
-  pub seek-end : n ≤ i → seeking i ≡ false
-  seek-end h₁ = rw (rest-end stay i n h₁ h₂)
+-- a transaction is gone if it is among those
+pub gone-among : (bs : List Bool) (ts : List ℕ) (t : ℕ) → isGone bs ts t ≡ has self t (goneBy bs ts)
+gone-among [] ts t = refl
+gone-among (b ∷ bs) [] t = refl
+gone-among (true ∷ bs) (u ∷ ts) t = gone-among bs ts t
+gone-among (false ∷ bs) (u ∷ ts) t = rw (eqb-swap t u) (ap (λ c. eqb u t || c) (gone-among bs ts t))
 
 -- the pairs that are left are those of transactions that are not gone
 abbrev pub remains : List Bool → List ℕ → Pair → Bool

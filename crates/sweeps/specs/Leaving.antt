@@ -1,8 +1,10 @@
 -- Several entries let go at once: flags by place in the roster say who stays.
-use Prim.Native.Nat.{ℕ}
+use Prim.Native.Nat.{ℕ, _≤_}
+use mathlib.Core.Path.{_≡_}
 use mathlib.Core.Bool.{Bool, false, cond, not, _&&_, _||_}
 use mathlib.Core.List.{List, [], _∷_}
 use lib.Dec.{eqb}
+use lib.ListN.{length, take}
 use Rattle.lists.specs.Lists.{keep}
 use Rattle.rules.specs.Index.{Pair}
 use Rattle.store.specs.declared.roster.Roster.{Roster}
@@ -10,6 +12,7 @@ use Rattle.store.specs.declared.issuers.Issuers.{Issuers}
 use Rattle.store.specs.declared.departures.Departures.{Departures}
 use Rattle.store.specs.Issuers.{isNot}
 use Rattle.ledger.specs.declared.Ledger.{Ledger}
+use Rattle.sweeps.specs.declared.leaving.Gone.{Gone}
 
 -- the pairs without those of each transaction whose flag is down
 abbrev pub unnamedBy : List Bool → List ℕ → List Pair → List Pair
@@ -22,6 +25,18 @@ abbrev pub isGone : List Bool → List ℕ → ℕ → Bool
 isGone [] ts t = false
 isGone (b ∷ bs) [] t = false
 isGone (b ∷ bs) (u ∷ ts) t = not b && eqb t u || isGone bs ts t
+
+-- those transactions
+abbrev pub goneBy : List Bool → List ℕ → List ℕ
+goneBy [] ts = []
+goneBy (b ∷ bs) [] = []
+goneBy (b ∷ bs) (t ∷ ts) = cond b (goneBy bs ts) (t ∷ goneBy bs ts)
+
+-- they stand at the front
+pub record Fronts (ts : List ℕ) (g : Gone) : Type 0 where
+  pub room : g .len ≤ 48
+  pub size : length (g .transactions) ≡ 48
+  pub front : take (g .len) (g .transactions) ≡ ts
 
 -- the transaction and the code of each whose flag is down
 abbrev pub listedBy : List Bool → List ℕ → List ℕ → List ℕ

@@ -3,6 +3,7 @@
 -- Assumes nothing.
 use Prim.Native.Nat.{_-_, _≤_}
 use mathlib.Core.Path.{_≡_}
+use mathlib.Core.Logic.{⊎-elim}
 use native.Mathlib.Omega.{arith}
 use lib.ListN.{length}
 use Rattle.script.specs.Lines.{Within}
@@ -19,6 +20,23 @@ abbrev μ-loop : tie.MeasureT-loop
 μ-loop input₀ output₀ numbers₀ lent₀ ledger₀ lines₀ out₀ times₀ at₀ input output numbers lent ledger lines out times at =
     18446744073709551615 - at
 
+-- after the call: the ledger is in order, and the list as long as it was
+joined : (c : tie.Joined3 Inv-loop μ-loop) → Held (c .if3 .ledger) × (4096 ≡ length (c .if3 .lent))
+joined c =
+    let l = c .before .before .before .before .before .before .before .before .before .before .before in
+    ⊎-elim
+    (λ w. (rw (w .7) (w .4 .ensures), rw (w .6) (omega (arith, l .loop .inv .3, w .4 .kept .1 .1 .1 .0))))
+    (λ w. (rw (w .7) (l .loop .inv .0), rw (w .6) (omega (arith, l .loop .inv .3, w .4 .kept .1 .1 .1 .0))))
+    (c .if3 .came)
+
+-- after the answers, and a dump if it is asked for: the text is within its buffer
+text : (c : tie.Joined5 Inv-loop μ-loop) → c .if5 .out .at ≤ 65536
+text c =
+    ⊎-elim
+    (λ w. rw (w .4) (w .2 .ensures))
+    (λ w. rw (w .2) (c .before .put-answers .ensures))
+    (c .if5 .came)
+
 new-requires : tie.Need-new-requires Inv-loop μ-loop
 new-requires c κs = search needs
 
@@ -34,17 +52,20 @@ loop-holds c = search needs
 next-line-requires : tie.Need-next-line-requires Inv-loop μ-loop
 next-line-requires c κs = search needs
 
-flush-requires : tie.Need-flush-requires Inv-loop μ-loop
-flush-requires c κs = search needs
-
-returns : tie.Need-returns Inv-loop μ-loop
-returns c = search needs
-
 add-at : tie.Need-add-at Inv-loop μ-loop
 add-at c = search needs
 
 parse-requires : tie.Need-parse-requires Inv-loop μ-loop
 parse-requires c κs = search needs
+
+is-no-call-requires : tie.Need-is-no-call-requires Inv-loop μ-loop
+is-no-call-requires c κs = search needs
+
+array-read-waiting : tie.Need-array-read-waiting Inv-loop μ-loop
+array-read-waiting c = search needs
+
+waiting-requires : tie.Need-waiting-requires Inv-loop μ-loop
+waiting-requires c κs = search needs
 
 loop-less : tie.Need-loop-less Inv-loop μ-loop
 loop-less c = search needs
@@ -52,46 +73,66 @@ loop-less c = search needs
 loop-again : tie.Need-loop-again Inv-loop μ-loop
 loop-again c = search needs
 
-array-read-times : tie.Need-array-read-times Inv-loop μ-loop
-array-read-times c = search needs
+slice-aggregate-apply : tie.Need-slice-aggregate-apply Inv-loop μ-loop
+slice-aggregate-apply c = search needs
 
-loop-less-2 : tie.Need-loop-less-2 Inv-loop μ-loop
-loop-less-2 c = search needs
+apply-requires : tie.Need-apply-requires Inv-loop μ-loop
+apply-requires c κs =
+    let e = c .before .before .before .before in
+    let l = e .before .before .before .before .before .before .before .before .before .before in
+    (l .loop .inv .0, e .before .before .parse .ensures, l .loop .inv .3)
 
-loop-again-2 : tie.Need-loop-again-2 Inv-loop μ-loop
-loop-again-2 c = search needs
+slice-aggregate-ask : tie.Need-slice-aggregate-ask Inv-loop μ-loop
+slice-aggregate-ask c = search needs
 
-slice-aggregate-perform : tie.Need-slice-aggregate-perform Inv-loop μ-loop
-slice-aggregate-perform c = search needs
+ask-requires : tie.Need-ask-requires Inv-loop μ-loop
+ask-requires c κs =
+    let e = c .before .before .before .before in
+    let l = e .before .before .before .before .before .before .before .before .before .before in
+    (l .loop .inv .0, e .before .before .parse .ensures, l .loop .inv .3)
 
-perform-requires : tie.Need-perform-requires Inv-loop μ-loop
-perform-requires c κs =
-    let l = c .before .before .before .before .before .before .before .before .before .before .before .before in
-    (l .loop .inv .0, c .before .before .before .before .parse .ensures, l .loop .inv .3)
+array-read-if4 : tie.Need-array-read-if4 Inv-loop μ-loop
+array-read-if4 c = search needs
 
 stop-requires : tie.Need-stop-requires Inv-loop μ-loop
-stop-requires c κs = c .before .before .before .before .before .before .before .before .before .before .before .before .before .before .before .before .before .loop .inv .2
+stop-requires c κs =
+    let j = c .before .before in
+    j .before .before .before .before .before .before .before .before .before .before .before .loop .inv .2
+
+returns : tie.Need-returns Inv-loop μ-loop
+returns c = search needs
+
+put-answers-requires : tie.Need-put-answers-requires Inv-loop μ-loop
+put-answers-requires c κs =
+    let j = c .before .before .before in
+    j .before .before .before .before .before .before .before .before .before .before .before .loop .inv .2
+
+put-ledger-requires : tie.Need-put-ledger-requires Inv-loop μ-loop
+put-ledger-requires c κs = (c .before .before .put-answers .ensures, joined (c .before .before .before .before .before .before) .0)
+
+slice-aggregate-put-list : tie.Need-slice-aggregate-put-list Inv-loop μ-loop
+slice-aggregate-put-list c = joined (c .before .before .before .before .before .before .before) .1
+
+put-list-requires : tie.Need-put-list-requires Inv-loop μ-loop
+put-list-requires c κs =
+    let j = c .before .before .before .before .before .before .before in
+    (text (c .before .before), j .before .before .before .parse .ensures, joined j .1)
+
+loop-less-2 : tie.Need-loop-less-2 Inv-loop μ-loop
+loop-less-2 c =
+    let j = c .before .before .before .before .before .before .before .before in
+    omega (arith, j .before .before .before .before .before .before .before .before .before .before .loop-test .taken)
+
+loop-again-2 : tie.Need-loop-again-2 Inv-loop μ-loop
+loop-again-2 c =
+    let j = c .before .before .before .before .before .before .before .before in
+    (joined j .0, j .before .before .before .before .before .before .before .before .next-line .ensures, c .put-list .ensures, joined j .1)
+
+flush-requires : tie.Need-flush-requires Inv-loop μ-loop
+flush-requires c κs = search needs
 
 returns-2 : tie.Need-returns-2 Inv-loop μ-loop
 returns-2 c = search needs
-
-slice-aggregate-put-reply : tie.Need-slice-aggregate-put-reply Inv-loop μ-loop
-slice-aggregate-put-reply c = search needs
-
-put-reply-requires : tie.Need-put-reply-requires Inv-loop μ-loop
-put-reply-requires c κs = (c .before .before .before .before .before .before .before .before .before .before .before .before .before .before .before .before .before .before .loop .inv .2, c .before .before .before .before .before .before .before .before .before .before .parse .ensures, c .before .before .before .before .before .perform .ensures, omega (arith, c .before .before .before .before .before .before .before .before .before .before .before .before .before .before .before .before .before .before .loop .inv .3, c .before .before .before .before .before .perform .kept))
-
-loop-less-3 : tie.Need-loop-less-3 Inv-loop μ-loop
-loop-less-3 c = omega (arith, c .before .before .before .before .before .before .before .before .before .before .before .before .before .before .before .before .before .before .before .loop-test .taken)
-
-loop-again-3 : tie.Need-loop-again-3 Inv-loop μ-loop
-loop-again-3 c = (c .before .before .before .before .before .before .before .perform .ensures, c .before .before .before .before .before .before .before .before .before .before .before .before .before .before .before .before .before .next-line .ensures, c .before .put-reply .ensures, omega (arith, c .before .before .before .before .before .before .before .before .before .before .before .before .before .before .before .before .before .before .before .before .loop .inv .3, c .before .before .before .before .before .before .before .perform .kept))
-
-flush-requires-2 : tie.Need-flush-requires-2 Inv-loop μ-loop
-flush-requires-2 c κs = search needs
-
-returns-3 : tie.Need-returns-3 Inv-loop μ-loop
-returns-3 c = search needs
 
 pub main-spec : {M : Type 1} → statement M
 main-spec =
@@ -104,22 +145,25 @@ main-spec =
     no-text-requires
     loop-holds
     next-line-requires
-    flush-requires
-    returns
     add-at
     parse-requires
+    is-no-call-requires
+    array-read-waiting
+    waiting-requires
     loop-less
     loop-again
-    array-read-times
+    slice-aggregate-apply
+    apply-requires
+    slice-aggregate-ask
+    ask-requires
+    array-read-if4
+    stop-requires
+    returns
+    put-answers-requires
+    put-ledger-requires
+    slice-aggregate-put-list
+    put-list-requires
     loop-less-2
     loop-again-2
-    slice-aggregate-perform
-    perform-requires
-    stop-requires
-    returns-2
-    slice-aggregate-put-reply
-    put-reply-requires
-    loop-less-3
-    loop-again-3
-    flush-requires-2
-    returns-3)
+    flush-requires
+    returns-2)

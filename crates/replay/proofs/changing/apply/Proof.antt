@@ -8,11 +8,11 @@ use Rattle.replay.proofs.changing.apply.Statement.{statement}
 use Rattle.replay.proofs.changing.apply.Tie as tie
 
 abbrev Inv-loop : tie.InvT-loop
-Inv-loop ledger₀ code numbers count lent₀ turns list w0 w1 w2 w3 tx key shard time said₀ left₀ ledger lent said left =
-    Held ledger × (length lent ≡ length lent₀)
+Inv-loop ledger₀ numbers times said₀ code n list₀ count words w0 w1 w2 w3 tx key shard time left₀ ledger said list left =
+    Held ledger × (length list ≡ length list₀)
 
 abbrev μ-loop : tie.MeasureT-loop
-μ-loop ledger₀ code numbers count lent₀ turns list w0 w1 w2 w3 tx key shard time said₀ left₀ ledger lent said left =
+μ-loop ledger₀ numbers times said₀ code n list₀ count words w0 w1 w2 w3 tx key shard time left₀ ledger said list left =
     left
 
 sub-list : tie.Need-sub-list Inv-loop μ-loop
@@ -23,6 +23,15 @@ part-list-start c = search needs
 
 part-list-end : tie.Need-part-list-end Inv-loop μ-loop
 part-list-end c = search needs
+
+sub-words : tie.Need-sub-words Inv-loop μ-loop
+sub-words c = search needs
+
+part-words-start : tie.Need-part-words-start Inv-loop μ-loop
+part-words-start c = search needs
+
+part-words-end : tie.Need-part-words-end Inv-loop μ-loop
+part-words-end c = search needs
 
 element-copy-out-w0 : tie.Need-element-copy-out-w0 Inv-loop μ-loop
 element-copy-out-w0 c = search needs
@@ -35,6 +44,9 @@ element-copy-out-w2 c = search needs
 
 element-copy-out-w3 : tie.Need-element-copy-out-w3 Inv-loop μ-loop
 element-copy-out-w3 c = search needs
+
+turns-of-requires : tie.Need-turns-of-requires Inv-loop μ-loop
+turns-of-requires c κs = search needs
 
 loop-holds : tie.Need-loop-holds Inv-loop μ-loop
 loop-holds c = search needs
@@ -67,7 +79,9 @@ loop-less-2 : tie.Need-loop-less-2 Inv-loop μ-loop
 loop-less-2 c = search needs
 
 loop-again-2 : tie.Need-loop-again-2 Inv-loop μ-loop
-loop-again-2 c = search needs
+loop-again-2 c =
+    let f = c .before .before .before .before .before .before in
+    (c .told2 .ensures, f .fill .kept .0 ∙ f .before .before .before .loop .inv .1)
 
 absent-requires : tie.Need-absent-requires Inv-loop μ-loop
 absent-requires c κs = search needs
@@ -79,7 +93,9 @@ loop-less-3 : tie.Need-loop-less-3 Inv-loop μ-loop
 loop-less-3 c = search needs
 
 loop-again-3 : tie.Need-loop-again-3 Inv-loop μ-loop
-loop-again-3 c = search needs
+loop-again-3 c =
+    let f = c .before .before .before .before .before .before in
+    (c .told3 .ensures, f .fill .kept .0 ∙ f .before .before .before .loop .inv .1)
 
 certify-requires : tie.Need-certify-requires Inv-loop μ-loop
 certify-requires c κs = search needs
@@ -91,7 +107,9 @@ loop-less-4 : tie.Need-loop-less-4 Inv-loop μ-loop
 loop-less-4 c = search needs
 
 loop-again-4 : tie.Need-loop-again-4 Inv-loop μ-loop
-loop-again-4 c = search needs
+loop-again-4 c =
+    let f = c .before .before .before .before .before .before in
+    (c .told4 .ensures, f .fill .kept .0 ∙ f .before .before .before .loop .inv .1)
 
 record-abandonment-requires : tie.Need-record-abandonment-requires Inv-loop μ-loop
 record-abandonment-requires c κs = search needs
@@ -103,7 +121,9 @@ loop-less-5 : tie.Need-loop-less-5 Inv-loop μ-loop
 loop-less-5 c = search needs
 
 loop-again-5 : tie.Need-loop-again-5 Inv-loop μ-loop
-loop-again-5 c = search needs
+loop-again-5 c =
+    let f = c .before .before .before .before .before .before in
+    (c .told5 .ensures, f .fill .kept .0 ∙ f .before .before .before .loop .inv .1)
 
 settled-requires : tie.Need-settled-requires Inv-loop μ-loop
 settled-requires c κs = search needs
@@ -115,7 +135,9 @@ loop-less-6 : tie.Need-loop-less-6 Inv-loop μ-loop
 loop-less-6 c = search needs
 
 loop-again-6 : tie.Need-loop-again-6 Inv-loop μ-loop
-loop-again-6 c = search needs
+loop-again-6 c =
+    let f = c .before .before .before .before .before .before in
+    (c .told6 .ensures, f .fill .kept .0 ∙ f .before .before .before .loop .inv .1)
 
 returned-requires : tie.Need-returned-requires Inv-loop μ-loop
 returned-requires c κs = search needs
@@ -127,7 +149,9 @@ loop-less-7 : tie.Need-loop-less-7 Inv-loop μ-loop
 loop-less-7 c = search needs
 
 loop-again-7 : tie.Need-loop-again-7 Inv-loop μ-loop
-loop-again-7 c = search needs
+loop-again-7 c =
+    let f = c .before .before .before .before .before .before in
+    (c .told7 .ensures, f .fill .kept .0 ∙ f .before .before .before .loop .inv .1)
 
 closes-requires : tie.Need-closes-requires Inv-loop μ-loop
 closes-requires c κs = search needs
@@ -153,7 +177,9 @@ loop-less-9 : tie.Need-loop-less-9 Inv-loop μ-loop
 loop-less-9 c = search needs
 
 loop-again-9 : tie.Need-loop-again-9 Inv-loop μ-loop
-loop-again-9 c = search needs
+loop-again-9 c =
+    let f = c .before .before .before .before .before .before in
+    (c .told9 .ensures, f .fill .kept .0 ∙ f .before .before .before .loop .inv .1)
 
 release-resolved-requires : tie.Need-release-resolved-requires Inv-loop μ-loop
 release-resolved-requires c κs = search needs
@@ -165,7 +191,9 @@ loop-less-10 : tie.Need-loop-less-10 Inv-loop μ-loop
 loop-less-10 c = search needs
 
 loop-again-10 : tie.Need-loop-again-10 Inv-loop μ-loop
-loop-again-10 c = search needs
+loop-again-10 c =
+    let f = c .before .before .before .before .before .before in
+    (c .told10 .ensures, f .fill .kept .0 ∙ f .before .before .before .loop .inv .1)
 
 forget-requires : tie.Need-forget-requires Inv-loop μ-loop
 forget-requires c κs = search needs
@@ -177,7 +205,9 @@ loop-less-11 : tie.Need-loop-less-11 Inv-loop μ-loop
 loop-less-11 c = search needs
 
 loop-again-11 : tie.Need-loop-again-11 Inv-loop μ-loop
-loop-again-11 c = search needs
+loop-again-11 c =
+    let f = c .before .before .before .before .before .before in
+    (c .told11 .ensures, f .fill .kept .0 ∙ f .before .before .before .loop .inv .1)
 
 departed-requires : tie.Need-departed-requires Inv-loop μ-loop
 departed-requires c κs = search needs
@@ -189,7 +219,9 @@ loop-less-12 : tie.Need-loop-less-12 Inv-loop μ-loop
 loop-less-12 c = search needs
 
 loop-again-12 : tie.Need-loop-again-12 Inv-loop μ-loop
-loop-again-12 c = search needs
+loop-again-12 c =
+    let f = c .before .before .before .before .before .before in
+    (c .told12 .ensures, f .fill .kept .0 ∙ f .before .before .before .loop .inv .1)
 
 prune-requires : tie.Need-prune-requires Inv-loop μ-loop
 prune-requires c κs = search needs
@@ -215,22 +247,15 @@ loop-less-14 : tie.Need-loop-less-14 Inv-loop μ-loop
 loop-less-14 c = search needs
 
 loop-again-14 : tie.Need-loop-again-14 Inv-loop μ-loop
-loop-again-14 c = search needs
+loop-again-14 c =
+    let f = c .before .before .before .before .before .before in
+    (c .told14 .ensures, f .fill .kept .0 ∙ f .before .before .before .loop .inv .1)
 
 loop-less-15 : tie.Need-loop-less-15 Inv-loop μ-loop
 loop-less-15 c = search needs
 
 loop-again-15 : tie.Need-loop-again-15 Inv-loop μ-loop
 loop-again-15 c = search needs
-
-array-read-t25 : tie.Need-array-read-t25 Inv-loop μ-loop
-array-read-t25 c = search needs
-
-array-read-t75 : tie.Need-array-read-t75 Inv-loop μ-loop
-array-read-t75 c = search needs
-
-array-read-t78 : tie.Need-array-read-t78 Inv-loop μ-loop
-array-read-t78 c = search needs
 
 same-length : tie.Need-same-length Inv-loop μ-loop
 same-length c = search needs
@@ -247,10 +272,14 @@ apply-spec =
     sub-list
     part-list-start
     part-list-end
+    sub-words
+    part-words-start
+    part-words-end
     element-copy-out-w0
     element-copy-out-w1
     element-copy-out-w2
     element-copy-out-w3
+    turns-of-requires
     loop-holds
     sub-left
     fill-requires
@@ -312,8 +341,5 @@ apply-spec =
     loop-again-14
     loop-less-15
     loop-again-15
-    array-read-t25
-    array-read-t75
-    array-read-t78
     same-length
     returns)

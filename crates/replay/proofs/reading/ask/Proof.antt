@@ -7,16 +7,28 @@ use Rattle.replay.proofs.reading.ask.Statement.{statement}
 use Rattle.replay.proofs.reading.ask.Tie as tie
 
 abbrev Inv-loop : tie.InvT-loop
-Inv-loop ledger code numbers lent₀ turns told₀ left₀ lent told left = length lent ≡ length lent₀
+Inv-loop ledger line numbers times said₀ n list₀ left₀ said list left = length list ≡ length list₀
 
 abbrev μ-loop : tie.MeasureT-loop
-μ-loop ledger code numbers lent₀ turns told₀ left₀ lent told left = left
+μ-loop ledger line numbers times said₀ n list₀ left₀ said list left = left
 
-told-requires : tie.Need-told-requires Inv-loop μ-loop
-told-requires c κs = search needs
+sub-list : tie.Need-sub-list Inv-loop μ-loop
+sub-list c = search needs
+
+part-list-start : tie.Need-part-list-start Inv-loop μ-loop
+part-list-start c = search needs
+
+part-list-end : tie.Need-part-list-end Inv-loop μ-loop
+part-list-end c = search needs
+
+turns-of-requires : tie.Need-turns-of-requires Inv-loop μ-loop
+turns-of-requires c κs = search needs
 
 loop-holds : tie.Need-loop-holds Inv-loop μ-loop
 loop-holds c = search needs
+
+sub-left : tie.Need-sub-left Inv-loop μ-loop
+sub-left c = search needs
 
 fill-requires : tie.Need-fill-requires Inv-loop μ-loop
 fill-requires c κs = search needs
@@ -24,8 +36,11 @@ fill-requires c κs = search needs
 read-requires : tie.Need-read-requires Inv-loop μ-loop
 read-requires c κs = search needs
 
-sub-left : tie.Need-sub-left Inv-loop μ-loop
-sub-left c = search needs
+element-write-said : tie.Need-element-write-said Inv-loop μ-loop
+element-write-said c = search needs
+
+element-write-said-2 : tie.Need-element-write-said-2 Inv-loop μ-loop
+element-write-said-2 c = search needs
 
 loop-less : tie.Need-loop-less Inv-loop μ-loop
 loop-less c = search needs
@@ -45,11 +60,16 @@ ask-spec =
     (tie.spec
     Inv-loop
     μ-loop
-    told-requires
+    sub-list
+    part-list-start
+    part-list-end
+    turns-of-requires
     loop-holds
+    sub-left
     fill-requires
     read-requires
-    sub-left
+    element-write-said
+    element-write-said-2
     loop-less
     loop-again
     same-length

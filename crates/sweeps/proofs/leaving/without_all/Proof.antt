@@ -2,40 +2,60 @@
 -- Assumes nothing.
 use Prim.Native.Nat.{_-_, _≤_}
 use mathlib.Core.Path.{_≡_, refl, sym, ap, _∙_}
-use mathlib.Core.Bool.{not}
-use mathlib.Core.List.{map}
+use mathlib.Core.Bool.{Bool, not}
+use mathlib.Core.List.{List, map}
+use Prim.Native.Nat.{ℕ}
 use native.Mathlib.Omega.{arith}
+use native.Mathlib.Numerals.{unary-clauses}
 use lib.ListN.{length, take, getD}
 use lib.Seq.{take-all}
-use Rattle.lists.specs.Lists.{keepBy}
+use Rattle.lists.specs.Lists.{keepBy, has, self}
 use Rattle.lists.proofs.Counting.{fill-one}
+use Rattle.lists.proofs.Keep.{keep-same}
 use Rattle.lists.proofs.Distinct.{keepBy-test}
 use Rattle.lists.proofs.Zip.{pairs-at}
+use Rattle.rules.specs.Index.{Pair}
 use Rattle.store.specs.Roster.{keysOf}
 use Rattle.store.specs.Issuers.{pair, pairsIn}
 use Rattle.store.proofs.Pairs.{pairs-length}
-use Rattle.sweeps.proofs.Several.{remains, unnamed-keep}
+use Rattle.sweeps.proofs.Several.{remains, unnamed-keep, gone-among}
 use borrow.Author.Needs.{needs}
 use Rattle.sweeps.proofs.leaving.without_all.Statement.{statement}
 use Rattle.sweeps.proofs.leaving.without_all.Tie as tie
 
+-- the pair's transaction is not among these
+abbrev apart : List ℕ → Pair → Bool
+apart ts q = not (has self (q .transaction) ts)
+
 abbrev Inv-loop : tie.InvT-loop
-Inv-loop roster issuers stay keys n named₀ i₀ named i = (i ≤ n) × (length named ≡ 384) × (take i named ≡ map (remains (take (roster .len) stay) (keysOf roster)) (take i (pairsIn issuers)))
+Inv-loop issuers transactions m n named₀ i₀ named i = (i ≤ n) × (length named ≡ 384) × (take i named ≡ map (apart (take m transactions)) (take i (pairsIn issuers)))
 
 abbrev μ-loop : tie.MeasureT-loop
-μ-loop roster issuers stay keys n named₀ i₀ named i = n - i
+μ-loop issuers transactions m n named₀ i₀ named i = n - i
+
+gone-from-requires : tie.Need-gone-from-requires Inv-loop μ-loop
+gone-from-requires c κs = search needs
 
 loop-holds : tie.Need-loop-holds Inv-loop μ-loop
 loop-holds c = (search needs, search needs, refl)
 
-mul-is-gone : tie.Need-mul-is-gone Inv-loop μ-loop
-mul-is-gone c = search needs
+sub-contains : tie.Need-sub-contains Inv-loop μ-loop
+sub-contains c = search needs
 
-element-copy-out-is-gone : tie.Need-element-copy-out-is-gone Inv-loop μ-loop
-element-copy-out-is-gone c = search needs
+part-contains-start : tie.Need-part-contains-start Inv-loop μ-loop
+part-contains-start c = search needs
 
-is-gone-requires : tie.Need-is-gone-requires Inv-loop μ-loop
-is-gone-requires c κs = search needs
+part-contains-end : tie.Need-part-contains-end Inv-loop μ-loop
+part-contains-end c = let g = c .before .before .before .before in omega (arith, g .gone-from .ensures .room, g .gone-from .ensures .size)
+
+mul-contains : tie.Need-mul-contains Inv-loop μ-loop
+mul-contains c = search needs
+
+element-copy-out-contains : tie.Need-element-copy-out-contains Inv-loop μ-loop
+element-copy-out-contains c = search needs
+
+contains-requires : tie.Need-contains-requires Inv-loop μ-loop
+contains-requires c κs = search needs
 
 array-write-named : tie.Need-array-write-named Inv-loop μ-loop
 array-write-named c = search needs
@@ -48,31 +68,45 @@ loop-less c = search needs
 
 loop-again : tie.Need-loop-again Inv-loop μ-loop
 loop-again c =
-    let s = c .before .before .before .before .before .before .before in
-    let l = c .before .before .before .before .before .loop in
+    let b = c .before .before .before .before in
+    let l = b .before .loop in
+    let g = b .before .before .before in
+    let s = g .before in
     let x = s .args .t1 in
-    let p = remains (take (s .args .roster .len) (s .args .t3)) (keysOf (s .args .roster)) in
+    let p = apart (take (g .gone-from .result .len) (g .gone-from .result .transactions)) in
     let h = s .pre .0 in
     let size : length (pairsIn x) ≡ x .len = pairs-length x h in
     let at : getD (pairsIn x) (l .i) (pair 0 0) ≡ pair (getD (x .records) (l .i) 0) (getD (x .transactions) (l .i) 0) =
     pairs-at pair (x .records) (x .transactions) (x .len) (omega (arith, h .room, h .recordLength)) (omega (arith, h .room, h .transactionLength)) 0 0 (pair 0 0) (l .i) (omega arith) in
-    (search needs, search needs, fill-one p (l .named) (pairsIn x) (l .i) (pair 0 0) _ (omega (arith, h .room)) (omega arith) (ap not (c .is-gone .ensures) ∙ sym (ap p at)) (l .inv .2))
+    (search needs, search needs, fill-one p (l .named) (pairsIn x) (l .i) (pair 0 0) _ (omega (arith, h .room)) (omega arith) (ap not (simp unary-clauses at (c .contains .ensures)) ∙ sym (ap p at)) (l .inv .2))
 
 kept-requires : tie.Need-kept-requires Inv-loop μ-loop
 kept-requires c κs = search needs
 
 returns : tie.Need-returns Inv-loop μ-loop
 returns c =
-    let s = c .before .before .before .before in
-    let l = c .before .before .loop in
+    let o = c .before .before in
+    let l = o .loop in
+    let g = o .before .before in
+    let s = g .before in
     let x = s .args .t1 in
-    let bs = take (s .args .roster .len) (s .args .t3) in
-    let p = remains bs (keysOf (s .args .roster)) in
+    let ts = take (g .gone-from .result .len) (g .gone-from .result .transactions) in
+    let bs = take (s .args .roster .len) (s .args .stay) in
+    let ks = keysOf (s .args .roster) in
     let q : l .i ≡ x .len = omega arith in
     let e : take (l .i) (pairsIn x) ≡ pairsIn x = take-all (l .i) (pairsIn x) (omega (arith, pairs-length x (s .pre .0))) in
-    let f : take (x .len) (l .named) ≡ map p (pairsIn x) = ap (λ m. take m (l .named)) (sym q) ∙ l .inv .2 ∙ ap (map p) e in
+    let f : take (x .len) (l .named) ≡ map (apart ts) (pairsIn x) = ap (λ m. take m (l .named)) (sym q) ∙ l .inv .2 ∙ ap (map (apart ts)) e in
+    let same : (y : Pair) → apart ts y ≡ remains bs ks y = λ y. ap not (ap (has self (y .transaction)) (g .gone-from .ensures .front) ∙ sym (gone-among bs ks (y .transaction))) in
     let k = c .kept .ensures in
-    record { sound = k .sound; pairs = k .pairs ∙ ap (λ m. keepBy m (pairsIn x)) f ∙ keepBy-test p (pairsIn x) ∙ sym (unnamed-keep bs (keysOf (s .args .roster)) (pairsIn x)) }
+    record {
+      sound = k .sound;
+      pairs =
+          k .pairs
+          ∙ ap (λ m. keepBy m (pairsIn x)) f
+          ∙ keepBy-test (apart ts) (pairsIn x)
+          ∙ keep-same (apart ts) (remains bs ks) (pairsIn x) (λ y _. same y)
+          ∙ sym (unnamed-keep bs ks (pairsIn x));
+    }
 
 pub without-all-spec : {M : Type 1} → statement M
 without-all-spec =
@@ -80,10 +114,14 @@ without-all-spec =
     (tie.spec
     Inv-loop
     μ-loop
+    gone-from-requires
     loop-holds
-    mul-is-gone
-    element-copy-out-is-gone
-    is-gone-requires
+    sub-contains
+    part-contains-start
+    part-contains-end
+    mul-contains
+    element-copy-out-contains
+    contains-requires
     array-write-named
     add-i
     loop-less

@@ -4,8 +4,8 @@ use Prim.Native.Nat.{_-_, _≤_}
 use mathlib.Core.Path.{_≡_}
 use lib.ListN.{length}
 use borrow.Author.Needs.{needs}
-use Rattle.replay.proofs.performing.fill.Statement.{statement}
-use Rattle.replay.proofs.performing.fill.Tie as tie
+use Rattle.replay.proofs.turns.fill.Statement.{statement}
+use Rattle.replay.proofs.turns.fill.Tie as tie
 
 abbrev Inv-loop : tie.InvT-loop
 Inv-loop lent₀ n i₀ lent i = (i ≤ n) × (n ≡ length lent) × (n ≡ length lent₀)

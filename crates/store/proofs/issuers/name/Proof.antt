@@ -1,0 +1,86 @@
+-- A pair that stands is not put in again; a new one goes in where its key ranks.
+-- Assumes nothing.
+use Prim.Native.Nat.{ℕ, _+_}
+use mathlib.Core.Path.{_≡_, sym, ap, _∙_}
+use mathlib.Core.Bool.{Bool, true, false}
+use mathlib.Core.List.{List}
+use native.Mathlib.Omega.{arith}
+use Rattle.lists.specs.Lists.{has, include}
+use Rattle.lists.specs.Arrays.{insertAt, rank}
+use Rattle.lists.proofs.Order.{every-include, include-known, length-include-new}
+use Rattle.lists.proofs.Loops.{rank-le, include-rank}
+use Rattle.rules.specs.Index.{Pair, pairKey, names}
+use Rattle.store.specs.declared.issuers.Issuers.{Issuers}
+use Rattle.store.specs.Issuers.{made, pair, pairsIn, isBefore, Holds, Worded}
+use Rattle.store.proofs.Pairs.{pairs-length}
+use Rattle.store.proofs.Typed.{Word}
+use Rattle.store.proofs.Keyed.{OfWord, has-names, rank-key}
+use borrow.Author.Needs.{needs}
+use Rattle.store.proofs.issuers.name.Statement.{statement}
+use Rattle.store.proofs.issuers.name.Tie as tie
+
+abbrev whole : tie.Start → Issuers
+whole s = made (s .args .records .now) (s .args .transactions .now) (s .args .n)
+
+abbrev e : tie.Start → Pair
+e s = pair (s .args .r .0) (s .args .t .0)
+
+abbrev l : tie.Start → List Pair
+l s = pairsIn (whole s)
+
+is-word : (s : tie.Start) → Word (s .args .t .0)
+is-word s = search needs
+
+stands : (s : tie.Start) (r b : Bool) → r ≡ names (l s) (s .args .r .0) (s .args .t .0) → r ≡ b → has pairKey (pairKey (e s)) (l s) ≡ b
+stands s r b h q = has-names (s .args .r .0) (s .args .t .0) (is-word s) (l s) (s .pre .2) ∙ sym h ∙ q
+
+put-in : (s : tie.Start) (k : ℕ) (x : Issuers) → has pairKey (pairKey (e s)) (l s) ≡ false → k ≡ rank (isBefore (s .args .r .0) (s .args .t .0)) (l s) →
+    Holds (insertAt k (e s) (l s)) x → Holds (include pairKey (e s) (l s)) x × Worded x
+put-in s k x h f o =
+    let q : pairsIn x ≡ include pairKey (e s) (l s) = o .pairs
+    ∙ ap (λ i. insertAt i (e s) (l s)) (f ∙ rank-key (s .args .r .0) (s .args .t .0) (is-word s) (l s) (s .pre .2))
+    ∙ include-rank pairKey (e s) (l s) h in
+    (record { sound = o .sound; pairs = q }, rw q (every-include pairKey OfWord (e s) (l s) (is-word s) (s .pre .2)))
+
+abbrev from : tie.Else1 → tie.Start
+from c = c .before .before .before .before
+
+new : (c : tie.Else1) → has pairKey (pairKey (e (from c))) (l (from c)) ≡ false
+new c = stands (from c) _ false (c .before .is-named .ensures) (c .if1 .left)
+
+is-named-requires : tie.Need-is-named-requires
+is-named-requires c κs = search needs
+
+returns : tie.Need-returns
+returns c =
+    let s = c .before .before .before .before in
+    let q = include-known pairKey (e s) (l s) (s .pre .1) (stands s _ true (c .before .is-named .ensures) (c .if1 .taken)) in
+    (record { sound = s .pre .0; pairs = sym q }, s .pre .2)
+
+rank-requires : tie.Need-rank-requires
+rank-requires c κs = search needs
+
+open-requires : tie.Need-open-requires
+open-requires c κs =
+    let k = c .before .before in
+    let b = k .before .before .before in
+    let s = from b in
+    let n = pairs-length (whole s) (s .pre .0) in (
+      s .pre .0,
+      omega (arith, n, k .rank .ensures, rank-le (isBefore (s .args .r .0) (s .args .t .0)) (l s)),
+      omega (arith, n, s .pre .3, length-include-new pairKey (e s) (l s) (new b)),
+    )
+
+add-result : tie.Need-add-result
+add-result c = search needs
+
+returns-2 : tie.Need-returns-2
+returns-2 c =
+    let k = c .before .before .before in
+    let b = k .before .before .before in
+    let s = from b in
+    let o = c .open .last in
+    put-in s (k .rank .result) (made (o .0) (o .1 .0) (s .args .n + 1)) (new b) (k .rank .ensures) (c .open .ensures)
+
+pub name-spec : {M : Type 1} → statement M
+name-spec = tie.close (tie.spec is-named-requires returns rank-requires open-requires add-result returns-2)
