@@ -13,7 +13,7 @@ const INTRODUCTION: [&str; 3] = [
     "`beside/bench` makes this page and its picture: both sides in one run on the same machine, over the same scripts, whose answers it first \
      finds equal.",
     "A row is what a call costs on a ledger with so many entries, by the best of several runs: a script that makes the call often \
-     (`repeat`), less one that makes it once; how often is chosen for each side, for runs of 20 to 30 ms. A call that changes the ledger is timed \
+     (`repeat`), less one that makes it once; how often is chosen for each side, for runs of some 25 ms. A call that changes the ledger is timed \
      in a block of lines that restores it, less a block with idle lines of the same length in its place, and what these cost by `repeat` is \
      added. So the text, and what the programs do around a call, drops out unless the row says otherwise; calls that are named together \
      are counted together.",

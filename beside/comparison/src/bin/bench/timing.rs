@@ -12,25 +12,26 @@ use std::time::{Duration, Instant};
 use crate::cases::{Case, Swap, Work};
 use crate::ledgers::script;
 
-/// What a run should take, and how often it is made at least.
+/// What a run should take, how often it is made at least, and at most while a cost is not well above the noise.
 #[derive(Clone, Copy)]
 struct Plan {
     target: Duration,
-    runs: usize,
+    least: usize,
+    most: usize,
 }
 
 const OF_CALLS: Plan = Plan {
     target: Duration::from_millis(25),
-    runs: 5,
+    least: 5,
+    most: 60,
 };
 /// Little of a block's time may be in the difference that counts: many short runs come closer to it than a few long ones.
 const OF_BLOCKS: Plan = Plan {
-    target: Duration::from_millis(20),
-    runs: 15,
+    target: Duration::from_millis(10),
+    least: 25,
+    most: 300,
 };
 const MOST_TIMES: u64 = 1 << 26;
-/// How often a run is made at most, while a cost is not well above the noise.
-const MOST_RUNS: usize = 150;
 /// How many times the noise is well above it, and what a cost must be to be told at all.
 const WELL: f64 = 20.0;
 const CLEAR: f64 = 3.0;
@@ -134,12 +135,12 @@ impl Program {
                 times.sort_by(f64::total_cmp);
             }
             let [long, short] = &times;
-            if long.len() < plan.runs {
+            if long.len() < plan.least {
                 continue;
             }
             let cost = (long[0] - short[0]) / calls + more;
             let noise = (long[2] - long[0] + short[2] - short[0]) / calls;
-            if cost > WELL * noise || long.len() == MOST_RUNS {
+            if cost > WELL * noise || long.len() == plan.most {
                 return Ok((cost > CLEAR * noise).then_some(cost));
             }
         }
