@@ -1,11 +1,14 @@
-//! Counts what the scripts reached: every refusal of every call, and how entries went.
+//! Counts what the scripts reached: every refusal of every call, how entries went, and every limit.
 
 use std::fmt;
 
-use reference::{CALLS, Reply, Runner, Tally};
+use reference::{Book, CALLS, Reply, Runner};
+
+use crate::limits::Limits;
+use crate::prunes::{Judged, Prunes, Rule};
+use crate::series::{Listener, Pairs};
 
 const REFUSALS: usize = 10;
-const LEG: u64 = 1;
 const REMAINDER: u64 = 3;
 
 #[derive(Default)]
@@ -15,19 +18,11 @@ pub struct Coverage {
     /// For each call: how often each status, and how often a first answer other than 0.
     calls: [([u64; REFUSALS], u64); CALLS.len()],
     prunes: Prunes,
+    pairs: Pairs,
+    limits: Limits,
     accepted: u64,
     aborted: u64,
     remainders: u64,
-}
-
-/// Entries that fell, by the rule that let them.
-#[derive(Default)]
-struct Prunes {
-    leg: u64,
-    absence: u64,
-    named: u64,
-    silent: u64,
-    deadline: u64,
 }
 
 impl Coverage {
@@ -35,17 +30,20 @@ impl Coverage {
     pub fn run(&mut self, script: &[u8], out: &mut Vec<u8>) {
         self.scripts += 1;
         let mut runner = Runner::default();
+        let mut listener = Listener::default();
         for line in script.split(|byte| *byte == b'\n') {
             let watched = line.starts_with(b"prune") || line.starts_with(b"release");
-            let before = watched.then(|| runner.book.tally());
+            let before = watched.then(|| runner.book.clone());
             if !runner.take(line, out) {
                 self.malformed += 1;
                 return;
             }
+            listener.hear(line, runner.reply.as_ref());
             if let Some(reply) = &runner.reply {
                 self.count(reply, before, &runner);
             }
         }
+        self.pairs.count(&listener);
     }
 
     /// How often the call of that name was refused with that number.
@@ -54,29 +52,25 @@ impl Coverage {
         place.map_or(0, |place| self.calls[place].0[number as usize])
     }
 
-    /// How often an entry went by each rule of prune and each decision of closes, and how
-    /// often a core became a remainder.
-    pub fn exits(&self) -> [u64; 8] {
-        let Prunes {
-            leg,
-            absence,
-            named,
-            silent,
-            deadline,
-        } = self.prunes;
-        [
-            leg,
-            absence,
-            named,
-            silent,
-            deadline,
-            self.accepted,
-            self.aborted,
-            self.remainders,
-        ]
+    pub fn judged(&self, rule: Rule) -> Judged {
+        self.prunes.by(rule)
     }
 
-    fn count(&mut self, reply: &Reply, before: Option<Tally>, runner: &Runner) {
+    /// How often several prunes were set against one.
+    pub fn pairs(&self) -> Pairs {
+        self.pairs
+    }
+
+    pub fn limits(&self) -> &Limits {
+        &self.limits
+    }
+
+    /// How often an entry went by each decision of closes, and how often a core became a remainder.
+    pub fn exits(&self) -> [u64; 3] {
+        [self.accepted, self.aborted, self.remainders]
+    }
+
+    fn count(&mut self, reply: &Reply, before: Option<Book>, runner: &Runner) {
         let place = CALLS.iter().position(|call| call.name == reply.call.name);
         let (statuses, said) = &mut self.calls[place.expect("a reply is some call's")];
         statuses[reply.status as usize] += 1;
@@ -85,9 +79,13 @@ impl Coverage {
             return;
         }
         match (reply.call.name, before) {
-            ("prune", Some(before)) => self.prunes.count(reply, &before, runner),
+            ("prune", Some(before)) => {
+                self.prunes
+                    .count(runner.numbers[0], reply, &before, &runner.book);
+            }
             ("release_resolved", Some(before)) => self.count_remainders(&before, runner),
             ("closes", _) => self.count_closes(reply),
+            ("dump", _) => self.limits.count(&reply.said),
             _ => {}
         }
     }
@@ -103,45 +101,14 @@ impl Coverage {
         }
     }
 
-    fn count_remainders(&mut self, before: &Tally, runner: &Runner) {
+    fn count_remainders(&mut self, before: &Book, runner: &Runner) {
+        let before = before.tally().owed;
         let after = runner.book.tally().owed;
-        let turned = after.iter().filter(|(transaction, (part, _))| {
-            *part == REMAINDER
-                && before
-                    .owed
-                    .get(transaction)
-                    .is_some_and(|(was, _)| was != part)
+        let turned = after.iter().filter(|(transaction, entry)| {
+            let was = before.get(transaction).map(|entry| entry.part);
+            entry.part == REMAINDER && was != Some(REMAINDER)
         });
         self.remainders += turned.count() as u64;
-    }
-}
-
-impl Prunes {
-    fn count(&mut self, reply: &Reply, before: &Tally, runner: &Runner) {
-        let reports: Vec<&[u64]> = reply
-            .lent
-            .chunks_exact(3)
-            .take(reply.said[0] as usize)
-            .collect();
-        let after = runner.book.tally().owed;
-        let fell = before
-            .owed
-            .iter()
-            .filter(|(transaction, _)| !after.contains_key(transaction));
-        for (transaction, (part, absence)) in fell {
-            let covered = reports
-                .iter()
-                .find(|item| item[0] == *transaction)
-                .map(|item| item[1]);
-            let counted = match (covered, *part) {
-                (Some(1), _) => &mut self.named,
-                (Some(_), _) => &mut self.silent,
-                (None, LEG | REMAINDER) => &mut self.leg,
-                (None, _) if *absence => &mut self.absence,
-                (None, _) => &mut self.deadline,
-            };
-            *counted += 1;
-        }
     }
 }
 
@@ -163,23 +130,23 @@ impl fmt::Display for Coverage {
             }
             writeln!(f)?;
         }
-        let Prunes {
-            leg,
-            absence,
-            named,
-            silent,
-            deadline,
-        } = &self.prunes;
+        writeln!(f, "{}", self.prunes)?;
+        let Pairs {
+            equal,
+            different,
+            fell,
+            reported,
+        } = self.pairs;
         writeln!(
             f,
-            "fell: {leg} legs and remainders and {absence} with an absence by rule 2, \
-             {named} by rule 3, {silent} by rule 4, {deadline} by rule 5"
+            "several prunes against one: {equal} pairs alike, {different} not; {fell} entries fell by the one, {reported} reported"
         )?;
         writeln!(
             f,
             "closed: {} Accept, {} Aborted",
             self.accepted, self.aborted
         )?;
-        write!(f, "cores turned to remainders: {}", self.remainders)
+        writeln!(f, "cores turned to remainders: {}", self.remainders)?;
+        write!(f, "{}", self.limits)
     }
 }

@@ -182,11 +182,24 @@ impl<'a> Maker<'a> {
         numbers.push(decomposed);
         numbers.extend(routes);
         numbers.extend(core);
-        numbers.extend((0..edges).map(|_| self.random.pick(&self.pools.ids)));
-        numbers.extend((0..edges).map(|_| self.from()));
+        numbers.extend(self.crossings(edges));
         numbers.extend((0..edges).map(|_| self.random.below(2)));
         numbers.extend(to.iter().map(|to| to.len() as u64));
         numbers.extend(to.into_iter().flatten());
+        numbers
+    }
+
+    /// The ids of the edges, then where each starts.
+    fn crossings(&mut self, edges: u64) -> Vec<u64> {
+        if self.random.percent(self.profile.own) {
+            let first = self.random.pick(&self.pools.ids);
+            let ids = (0..edges).map(|step| first + step);
+            return ids.chain((0..edges).map(|_| self.pools.local)).collect();
+        }
+        let mut numbers: Vec<u64> = (0..edges)
+            .map(|_| self.random.pick(&self.pools.ids))
+            .collect();
+        numbers.extend((0..edges).map(|_| self.from()));
         numbers
     }
 
@@ -272,7 +285,7 @@ impl<'a> Maker<'a> {
                 self.tally
                     .owed
                     .get(&pair.1)
-                    .is_some_and(|(part, _)| *part == LEG || *part == REMAINDER)
+                    .is_some_and(|entry| matches!(entry.part, LEG | REMAINDER))
             };
             let (record, transaction) = if markable(&first) { first } else { second };
             return vec![record, transaction];

@@ -7,10 +7,12 @@ pub struct Profile {
     pub shards: u64,
     /// Routes at most, beside the four about local's ends.
     pub routes: u64,
-    /// Shares in percent: decomposed admissions, sizes at their limits, spoilt calls, and
-    /// groups of lines that let all owners of remote routes leave.
+    /// Shares in percent: decomposed admissions, sizes at their limits, admissions whose edges
+    /// are all local's own with a key each, spoilt calls, and groups of lines that let all
+    /// owners of remote routes leave.
     pub decomposed: u64,
     pub wide: u64,
+    pub own: u64,
     pub breach: u64,
     pub silence: u64,
     /// Lines to fill tables with before the mixed ones, and the call that fills.
@@ -26,6 +28,7 @@ const MIXED: Profile = Profile {
     routes: 10,
     decomposed: 60,
     wide: 5,
+    own: 3,
     breach: 6,
     silence: 1,
     fill: (0, ""),
@@ -51,7 +54,7 @@ const FULL: Profile = Profile {
     ..MIXED
 };
 
-/// Every entry at its largest, so that the index can hold all of its pairs.
+/// Every entry at its largest.
 const BRIM: Profile = Profile {
     shards: 16,
     decomposed: 90,
@@ -67,6 +70,26 @@ const BRIM: Profile = Profile {
         "issuers_of",
     ],
     ..FULL
+};
+
+/// Eight records of its own for every entry, so that the index holds all of its pairs.
+const INDEX: Profile = Profile {
+    decomposed: 100,
+    wide: 100,
+    own: 100,
+    ..BRIM
+};
+
+/// An entry that has every mark.
+const MARKS: Profile = Profile {
+    transactions: 1,
+    decomposed: 95,
+    wide: 90,
+    own: 90,
+    fill: (2, "register_committed"),
+    lines: (40, 80),
+    favour: &["settled", "settled", "returned", "issued_by", "claimants"],
+    ..MIXED
 };
 
 const DEPARTURES: Profile = Profile {
@@ -146,6 +169,7 @@ const DEPARTING: Profile = Profile {
     breach: 2,
     silence: 4,
     wide: 2,
+    own: 3,
     fill: (8, "register_committed"),
     lines: (20, 60),
     favour: &[
@@ -176,10 +200,12 @@ const WIDE: Profile = Profile {
 };
 
 /// Each with its weight.
-const PROFILES: [(u64, &Profile); 10] = [
+const PROFILES: [(u64, &Profile); 12] = [
     (20, &MIXED),
     (6, &FULL),
     (2, &BRIM),
+    (2, &INDEX),
+    (3, &MARKS),
     (8, &DEPARTURES),
     (8, &ABSENCES),
     (14, &CROSSINGS),

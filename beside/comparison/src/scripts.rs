@@ -8,6 +8,7 @@ use crate::malformed;
 use crate::pools::Pools;
 use crate::profiles::{self, Profile};
 use crate::random::Random;
+use crate::series;
 
 /// Lent to a call that is refused whatever its list.
 const SOME_WORDS: u64 = 4;
@@ -72,14 +73,28 @@ pub fn script(seed: u64, index: u64, names: &Names) -> Script {
     writer.fill();
     writer.mix();
     writer.finish();
-    let text = writer.text;
+    let Writer { text, pools, .. } = writer;
     if random.percent(2) {
         return Script {
             text: malformed::spoil(&mut random, text, names),
             apart: true,
         };
     }
+    let told = names.has("prune") && names.has("dump");
+    if made && told && random.percent(10) {
+        let text = series::pair(&text, &rising(&mut random, &pools));
+        return Script { text, apart: false };
+    }
     Script { text, apart: !made }
+}
+
+/// Clocks about which entries fall.
+fn rising(random: &mut Random, pools: &Pools) -> Vec<u64> {
+    let mut clocks: Vec<u64> = (0..random.between(2, 5))
+        .map(|_| random.pick(&pools.far))
+        .collect();
+    clocks.sort_unstable();
+    clocks
 }
 
 struct Writer<'a> {
@@ -182,12 +197,7 @@ impl<'a> Writer<'a> {
     /// A rising series of prunes at times, then everything that is held.
     fn finish(&mut self) {
         if self.names.has("prune") && self.random.percent(25) {
-            let mut clocks: Vec<u64> = (0..self.random.between(2, 5))
-                .map(|_| self.random.word())
-                .map(|word| self.pools.far[word as usize % self.pools.far.len()])
-                .collect();
-            clocks.sort_unstable();
-            for clock in clocks {
+            for clock in rising(self.random, &self.pools) {
                 self.list_call("prune", &[clock]);
             }
         }

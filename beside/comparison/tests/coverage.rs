@@ -1,7 +1,8 @@
-//! Holds the generator to its purpose: every refusal of every call, and every way an entry goes,
-//! comes up in a few thousand scripts.
+//! Holds the generator to its purpose: every refusal of every call, every rule of prune standing and falling, and every way an
+//! entry goes, comes up in a few thousand scripts.
 
 use comparison::coverage::Coverage;
+use comparison::prunes::{RULES, Rule};
 use comparison::scripts::{Names, script};
 
 /// Each call with the refusals that the paper's table allows it.
@@ -50,6 +51,38 @@ fn every_refusal_and_every_exit_comes_up() {
         coverage.exits().iter().all(|count| *count > 20),
         "{coverage}"
     );
+}
+
+/// By rule 1 nobody falls, and by rule 4 nobody who has a route without departure.
+#[test]
+fn every_rule_stands_and_falls_to_its_edge() {
+    let coverage = covered(&Names::all(), 6000);
+    for (rule, name) in RULES {
+        let judged = coverage.judged(rule);
+        assert!(judged.stood > 100, "{name}: {coverage}");
+        if matches!(rule, Rule::Unexecuted | Rule::Open) {
+            assert_eq!((judged.fell, judged.stood_last), (0, 0), "{name}");
+        } else {
+            let least = judged.fell.min(judged.stood_last).min(judged.fell_first);
+            assert!(least > 20, "{name}: {coverage}");
+        }
+    }
+}
+
+#[test]
+fn several_prunes_are_set_against_one() {
+    let coverage = covered(&Names::all(), 2000);
+    let pairs = coverage.pairs();
+    assert_eq!(pairs.different, 0);
+    assert!(pairs.equal > 100, "{coverage}");
+}
+
+#[test]
+fn every_limit_is_reached() {
+    let coverage = covered(&Names::all(), 6000);
+    for (name, dumps) in coverage.limits().reached() {
+        assert!(dumps > 0, "never as many {name} as may be");
+    }
 }
 
 #[test]

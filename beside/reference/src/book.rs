@@ -2,7 +2,7 @@
 
 use std::collections::BTreeMap;
 
-use hyperscale_types::{ShardId, Spans};
+use hyperscale_types::{ShardId, Spans, TxHash};
 
 use crate::ledger::{Ledger, inside};
 use crate::refusals::{LIST_SHORT, NO_SHARD_TO_MAKE, NO_SPAN, is_shard, is_span, unless};
@@ -15,10 +15,28 @@ pub struct Book {
 
 /// What stands owed, for whoever steers or counts calls: never read to answer one.
 pub struct Tally {
-    /// Each owed transaction's part code and whether it has an absence.
-    pub owed: BTreeMap<u64, (u64, bool)>,
+    pub owed: BTreeMap<u64, Standing>,
     /// The index: record and transaction.
     pub pairs: Vec<(u64, u64)>,
+}
+
+/// What the rules of prune ask of an entry before any clock.
+pub struct Standing {
+    pub part: u64,
+    pub certificate: u64,
+    pub absent: bool,
+    pub named: bool,
+    pub remote: Remote,
+}
+
+/// How the departures lie over an entry's remote routes.
+pub enum Remote {
+    /// No route is remote.
+    Nowhere,
+    /// Some remote route has no departure over it.
+    Open,
+    /// Every remote route has one.
+    Departed,
 }
 
 impl Default for Book {
@@ -55,6 +73,10 @@ impl Book {
             spans,
             rebuilt: 0,
         })
+    }
+
+    pub fn owes(&self, transaction: u64) -> bool {
+        self.ledger.contains(TxHash(transaction))
     }
 
     pub fn tally(&self) -> Tally {

@@ -7,6 +7,7 @@ use hyperscale_types::{RoutePrefix, ShardId, SubstateKey, TxHash};
 use hyperscale_vm_effects::Kind;
 
 use super::{Certified, Departure, Ledger, Owed, Part};
+use crate::book::{Remote, Standing};
 
 /// The ledger has no `Clone`, and a list too short must leave it as it was.
 pub fn copy(ledger: &Ledger) -> Ledger {
@@ -38,13 +39,27 @@ pub fn reach(ledger: &Ledger, tx_hash: TxHash) -> &[RoutePrefix] {
     ledger.owed.get(&tx_hash).map_or(&[], |owed| &owed.figures.reach)
 }
 
-/// Each owed transaction with its part's code and whether it has an absence.
-pub fn owed(ledger: &Ledger) -> BTreeMap<u64, (u64, bool)> {
-    ledger
-        .owed
-        .iter()
-        .map(|(tx_hash, owed)| (tx_hash.0, (part(owed), !owed.absences.is_empty())))
-        .collect()
+pub fn owed(ledger: &Ledger) -> BTreeMap<u64, Standing> {
+    let standing = |owed| Standing {
+        part: part(owed),
+        certificate: certificate(owed),
+        absent: !owed.absences.is_empty(),
+        named: owed.departed_by.is_some(),
+        remote: remote(ledger, owed),
+    };
+    ledger.owed.iter().map(|(tx_hash, owed)| (tx_hash.0, standing(owed))).collect()
+}
+
+fn remote(ledger: &Ledger, owed: &Owed) -> Remote {
+    let departed = |route| ledger.departure_over(owed, route).is_some();
+    let mut routes = ledger.remote_routes(owed).peekable();
+    if routes.peek().is_none() {
+        Remote::Nowhere
+    } else if routes.all(departed) {
+        Remote::Departed
+    } else {
+        Remote::Open
+    }
 }
 
 /// The index as pairs of record and transaction, rising.
@@ -94,15 +109,11 @@ fn dump_admission(owed: &Owed, out: &mut Vec<u64>) {
 }
 
 fn dump_standing(owed: &Owed, out: &mut Vec<u64>) {
-    let certified = match owed.certified {
-        Certified::No => 0,
-        Certified::ByAbandonment => 1,
-        Certified::ByExecution => 2,
-    };
     let held = owed.part.held();
     let returned = held.is_some_and(|held| held.returned);
     let named = owed.departed_by.map_or(0, |shard| shard.0);
-    out.extend([part(owed), certified, named, u64::from(returned), owed.absences.len() as u64]);
+    let [part, certificate] = [part(owed), certificate(owed)];
+    out.extend([part, certificate, named, u64::from(returned), owed.absences.len() as u64]);
     out.extend(owed.absences.iter().flat_map(|(shard, key)| [shard.0, key.0]));
     out.push(held.map_or(0, |held| held.gone.len() as u64));
     out.extend(held.into_iter().flat_map(|held| held.gone.iter().map(|record| record.0)));
@@ -120,5 +131,13 @@ fn part(owed: &Owed) -> u64 {
         Part::Leg(_) => 1,
         Part::Core(_) => 2,
         Part::Remainder(_) => 3,
+    }
+}
+
+fn certificate(owed: &Owed) -> u64 {
+    match owed.certified {
+        Certified::No => 0,
+        Certified::ByAbandonment => 1,
+        Certified::ByExecution => 2,
     }
 }

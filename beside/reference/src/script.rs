@@ -34,7 +34,8 @@ enum Line {
 pub struct Runner {
     pub book: Book,
     pub reply: Option<Reply>,
-    numbers: Vec<u64>,
+    /// Those of the last call.
+    pub numbers: Vec<u64>,
     line: u64,
     repeat: Option<u64>,
 }

@@ -401,10 +401,11 @@ impl Entry {
         requires { ⌜ Fits self ⌝ }
         ensures { λ r. ⌜ r ≡ filled (issued (local .0) (plainEntry self .terms)) ⌝ }
     {
+        let froms = self.froms;
         let n = self.edges_len as usize;
         let mut i: usize = 0;
         while i < n {
-            if self.froms[i] == local.0 {
+            if froms[i] == local.0 {
                 return true;
             }
             i += 1;
@@ -426,10 +427,12 @@ impl Entry {
         requires { ⌜ Fits self ⌝ }
         ensures { λ r. ⌜ r ≡ all (isMarked self) (issued (local .0) (plainEntry self .terms)) ⌝ }
     {
+        let froms = self.froms;
+        let ids = self.ids;
         let n = self.edges_len as usize;
         let mut i: usize = 0;
         while i < n {
-            if self.is_open(self.froms[i], self.ids[i], local) {
+            if self.is_open(froms[i], ids[i], local) {
                 return false;
             }
             i += 1;

@@ -1,6 +1,7 @@
 -- What a view shows of the departures on file at a clock.
 use Prim.Native.Nat.{ℕ, _≤_, _<_}
 use mathlib.Core.Path.{_≡_}
+use mathlib.Core.Bool.{Bool}
 use mathlib.Core.List.{List, map}
 use lib.ListN.{length, take}
 use lib.Count.{leadingZeros}
@@ -16,6 +17,10 @@ cutOf d = d .cut
 -- the leading zeros of a departure's shard
 abbrev pub zerosOf : Departure → ℕ
 zerosOf d = leadingZeros 64 (d .shard)
+
+-- the view that these arrays make up, of which the first n count
+abbrev pub view : List ℕ → List ℕ → List ℕ → List Bool → ℕ → View
+view ss zs cs rs n = record { shards = ss; zeros = zs; cuts = cs; readable = rs; len = n }
 
 -- the arrays are whole, and a route is shifted by less than its width
 pub record Sized (v : View) : Type 0 where

@@ -1,5 +1,4 @@
 // What an entry's routes ask of the departures: rule 4, and which departures the entry still needs.
-use crate::views::View;
 use entry::Entry;
 use types::Shard;
 use types::Time;
@@ -15,7 +14,7 @@ ghost use Rattle.rules.specs.Plain.{remote};
 ghost use Rattle.rules.specs.Numbers.{isShard, owns};
 ghost use Rattle.rules.specs.Prune.{holds};
 ghost use Rattle.entry.specs.Entry.{plainEntry, Fits};
-ghost use Rattle.judge.specs.View.{Sized, Shows, zerosOf};
+ghost use Rattle.judge.specs.View.{view, Sized, Shows, zerosOf};
 ghost use Rattle.judge.specs.Answers.{Asks, answersYet, coversSome};
 
 // More than any cut and any shard.
@@ -61,11 +60,21 @@ fn counts_over(
 
 // Rule 4's question: over some remote route there is no departure, or the one that counts is readable. The departures are gone
 // through downwards, with the best so far beside.
-pub fn answers_yet(routes: [u64; 8], n: usize, anchor: Time, local: Shard, v: View) -> bool
+pub fn answers_yet<'a>(
+    routes: [u64; 8],
+    n: usize,
+    anchor: Time,
+    local: Shard,
+    shards: &'a [u64; 32],
+    zeros: &'a [u32; 32],
+    cuts: &'a [u64; 32],
+    readable: &'a [bool; 32],
+    len: usize,
+) -> bool
     requires { ⌜ n ≤ 8 ⌝ }
     requires { ⌜ isShard (local .0) ≡ true ⌝ }
-    requires { ⌜ Sized v ⌝ }
-    ensures { λ r. ⌜ ((ds : List plain.Departure) (now : ℕ) (e : plain.Entry) → Shows ds now v → Asks (take n routes) (anchor .0) e → r ≡ answersYet now ds (local .0) e) ⌝ }
+    requires { ⌜ Sized (view (now shards) (now zeros) (now cuts) (now readable) len) ⌝ }
+    ensures { λ r. ⌜ ((ds : List plain.Departure) (at : ℕ) (e : plain.Entry) → Shows ds at (view (now (shards .entry)) (now (zeros .entry)) (now (cuts .entry)) (now (readable .entry)) len) → Asks (take n routes) (anchor .0) e → r ≡ answersYet at ds (local .0) e) ⌝ }
 {
     let mut stands = false;
     let mut i: usize = 0;
@@ -79,16 +88,16 @@ pub fn answers_yet(routes: [u64; 8], n: usize, anchor: Time, local: Shard, v: Vi
         let mut best = TOP;
         let mut lowest = TOP;
         let mut answers = true;
-        let mut j = v.len;
+        let mut j = len;
         while 0 < j {
             j -= 1;
-            let shard = v.shards[j];
-            let cut = v.cuts[j];
-            let readable = v.readable[j];
-            if counts_over(led, shard, v.zeros[j], cut, anchor.0, best, lowest) {
+            let shard = shards[j];
+            let cut = cuts[j];
+            let answer = readable[j];
+            if counts_over(led, shard, zeros[j], cut, anchor.0, best, lowest) {
                 best = cut;
                 lowest = shard;
-                answers = readable;
+                answers = answer;
             }
         }
         if answers {

@@ -1,7 +1,6 @@
 // The five rules.
 use crate::routes;
 use crate::views;
-use crate::views::View;
 use entry::Entry;
 use entry::Part;
 use types::Shard;
@@ -14,7 +13,7 @@ ghost use Rattle.rules.specs.Plain as plain;
 ghost use Rattle.rules.specs.Plain.{isCore, isSettling};
 ghost use Rattle.rules.specs.Numbers.{isShard, isTime, isSpan};
 ghost use Rattle.entry.specs.Entry.{plainEntry, plainPart, Fits};
-ghost use Rattle.judge.specs.View.{Sized};
+ghost use Rattle.judge.specs.View.{view, Sized};
 ghost use Rattle.judge.specs.Verdict.{Says, Faces, unlessTold, unlessQuiet, byRoutes};
 
 // Told holds what the report says of covered, 0 or 1; an entry that only falls is not reported.
@@ -71,34 +70,66 @@ fn is_settling(part: Part, absences: u8) -> bool
 }
 
 // Rules 4 and 5, of an entry that no record names and that has no absence.
-fn by_routes(e: Entry, local: Shard, validity: u64, time: Time, v: View) -> Verdict
+fn by_routes<'a>(
+    e: Entry,
+    local: Shard,
+    validity: u64,
+    time: Time,
+    shards: &'a [u64; 32],
+    zeros: &'a [u32; 32],
+    cuts: &'a [u64; 32],
+    readable: &'a [bool; 32],
+    len: usize,
+) -> Verdict
     requires { ⌜ Fits e ⌝ }
     requires { ⌜ isShard (local .0) ≡ true ⌝ }
     requires { ⌜ isTime (e .at .0) ≡ true ⌝ }
     requires { ⌜ isSpan validity ≡ true ⌝ }
-    requires { ⌜ Sized v ⌝ }
-    ensures { λ r. ⌜ ((p : plain.Plain) (l : ℕ) → Faces p (time .0) (local .0) validity l v → r ≡ byRoutes p (time .0) (plainEntry e)) ⌝ }
+    requires { ⌜ Sized (view (now shards) (now zeros) (now cuts) (now readable) len) ⌝ }
+    ensures { λ r. ⌜ ((p : plain.Plain) (l : ℕ) → Faces p (time .0) (local .0) validity l (view (now (shards .entry)) (now (zeros .entry)) (now (cuts .entry)) (now (readable .entry)) len) → r ≡ byRoutes p (time .0) (plainEntry e)) ⌝ }
 {
     let routes = e.routes;
     let n = e.routes_len as usize;
     if 0 < e.certified {
         if routes::reaches_beyond(routes, n, local) {
             let anchor = e.anchor;
-            return told(routes::answers_yet(routes, n, anchor, local, v), 0);
+            let yet = routes::answers_yet(
+                routes,
+                n,
+                anchor,
+                local,
+                shards,
+                zeros,
+                cuts,
+                readable,
+                len,
+            );
+            return told(yet, 0);
         }
     }
     quiet(time.0 < e.at.0 + validity)
 }
 
 // The verdict on an entry at a clock, by the first rule that fits.
-pub fn judge(e: Entry, local: Shard, validity: u64, leg_span: u64, time: Time, v: View) -> Verdict
+pub fn judge<'a>(
+    e: Entry,
+    local: Shard,
+    validity: u64,
+    leg_span: u64,
+    time: Time,
+    shards: &'a [u64; 32],
+    zeros: &'a [u32; 32],
+    cuts: &'a [u64; 32],
+    readable: &'a [bool; 32],
+    len: usize,
+) -> Verdict
     requires { ⌜ Fits e ⌝ }
     requires { ⌜ isShard (local .0) ≡ true ⌝ }
     requires { ⌜ isTime (e .at .0) ≡ true ⌝ }
     requires { ⌜ isSpan validity ≡ true ⌝ }
     requires { ⌜ isSpan «leg_span» ≡ true ⌝ }
-    requires { ⌜ Sized v ⌝ }
-    ensures { λ r. ⌜ ((p : plain.Plain) → Faces p (time .0) (local .0) validity «leg_span» v → Says r p (time .0) (plainEntry e)) ⌝ }
+    requires { ⌜ Sized (view (now shards) (now zeros) (now cuts) (now readable) len) ⌝ }
+    ensures { λ r. ⌜ ((p : plain.Plain) → Faces p (time .0) (local .0) validity «leg_span» (view (now (shards .entry)) (now (zeros .entry)) (now (cuts .entry)) (now (readable .entry)) len) → Says r p (time .0) (plainEntry e)) ⌝ }
 {
     let part = e.part;
     let naming = e.naming;
@@ -111,7 +142,7 @@ pub fn judge(e: Entry, local: Shard, validity: u64, leg_span: u64, time: Time, v
         return quiet(time.0 < e.at.0 + leg_span);
     }
     if named {
-        return told(views::named_readable(naming, v), 1);
+        return told(views::named_readable(naming, shards, readable, len), 1);
     }
-    by_routes(e, local, validity, time, v)
+    by_routes(e, local, validity, time, shards, zeros, cuts, readable, len)
 }

@@ -7,13 +7,14 @@ ghost use mathlib.Core.Path.{_≡_};
 ghost use mathlib.Core.Bool.{_&&_, true};
 ghost use mathlib.Core.List.{List};
 ghost use lib.Dec.{eqb, ltb};
-ghost use Prim.Native.Nat.{ℕ, _<_};
+ghost use lib.ListN.{length};
+ghost use Prim.Native.Nat.{ℕ, _≤_};
 ghost use Rattle.lists.specs.Lists.{Every};
 ghost use Rattle.rules.specs.Plain as plain;
 ghost use Rattle.rules.specs.Prune.{readable};
 ghost use Rattle.rules.specs.Good.{GoodDeparture};
 ghost use Rattle.store.specs.Departures.{plainDeparture, onFile, Sound};
-ghost use Rattle.judge.specs.View.{Sized, Shows};
+ghost use Rattle.judge.specs.View.{view, Shows};
 ghost use Rattle.judge.specs.Answers.{namedReadable};
 
 // Of each departure its shard, the leading zeros of the shard, its cut, and whether it is readable at the clock.
@@ -71,14 +72,18 @@ fn is_named_open(naming: u64, shard: u64, readable: bool) -> bool
 }
 
 // Whether the shard that names an entry has a readable departure.
-pub fn named_readable(naming: Shard, v: View) -> bool
-    requires { ⌜ Sized v ⌝ }
-    ensures { λ r. ⌜ ((ds : List plain.Departure) (now : ℕ) (e : plain.Entry) → Shows ds now v → e .naming ≡ naming .0 → ltb 0 (e .naming) ≡ true → r ≡ namedReadable now ds e) ⌝ }
+pub fn named_readable<'a>(
+    naming: Shard,
+    shards: &'a [u64; 32],
+    readable: &'a [bool; 32],
+    n: usize,
+) -> bool
+    requires { ⌜ (n ≤ 32) × (length (now shards) ≡ 32) × (length (now readable) ≡ 32) ⌝ }
+    ensures { λ r. ⌜ ((ds : List plain.Departure) (at : ℕ) (zs cs : List ℕ) (e : plain.Entry) → Shows ds at (view (now (shards .entry)) zs cs (now (readable .entry)) n) → e .naming ≡ naming .0 → ltb 0 (e .naming) ≡ true → r ≡ namedReadable at ds e) ⌝ }
 {
-    let n = v.len;
     let mut i: usize = 0;
     while i < n {
-        if is_named_open(naming.0, v.shards[i], v.readable[i]) {
+        if is_named_open(naming.0, shards[i], readable[i]) {
             return true;
         }
         i += 1;

@@ -4,6 +4,7 @@ pub mod Order
 pub mod Change
 pub mod Parts
 pub mod Loops
+pub mod Ranked
 pub mod Distinct
 pub mod Maps
 pub mod Pairs

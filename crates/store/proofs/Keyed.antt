@@ -1,18 +1,20 @@
 -- Where transactions are words, the key of a pair says what its record and its transaction say.
 -- Assumes nothing.
-use Prim.Native.Nat.{ℕ}
-use mathlib.Core.Path.{_≡_}
-use mathlib.Core.Bool.{true}
+use Prim.Native.Nat.{ℕ, _≤_, _<_}
+use mathlib.Core.Path.{_≡_, sym, _∙_}
+use mathlib.Core.Bool.{true, false}
 use mathlib.Core.List.{List}
 use native.Mathlib.Omega.{arith}
 use borrow.Author.Tests.{eqb-true, lt-ltb, le-ltb, eq-eqb, ne-eqb}
 use lib.Dec.{eqb, ltb}
-use lib.ListN.{take}
-use Rattle.lists.specs.Lists.{at, has, Every}
+use lib.ListN.{length, take, getD}
+use Rattle.lists.specs.Lists.{at, has, Every, Ascending}
 use Rattle.lists.specs.Arrays.{rank}
 use Rattle.lists.proofs.Tests.{same-test, and-both, and-left, and-right}
 use Rattle.lists.proofs.Keep.{any-same, every-member, every-always, every-more}
 use Rattle.lists.proofs.Order.{by-order}
+use Rattle.lists.proofs.Ranked.{has-at, rank-most, rank-least, ranked-lacks}
+use Rattle.lists.proofs.Distinct.{every-at}
 use Rattle.lists.proofs.Parts.{every-take, every-zipBy}
 use Rattle.lists.proofs.Pairs.{rank-same}
 use Rattle.rules.specs.Index.{Pair, pairKey, names}
@@ -60,6 +62,29 @@ module _ (r t : ℕ) (w : Word t) where
   -- and it ranks where the pair ranks
   pub rank-key : (l : List Pair) → Every OfWord l → rank (isBefore r t) l ≡ rank (λ q. ltb (pairKey q) (pairKey (pair r t))) l
   rank-key l v = rank-same (isBefore r t) (λ q. ltb (pairKey q) (pairKey (pair r t))) l (every-more OfWord _ key-leads l v)
+
+  -- what a probe at a place tells of the rank, and what stands at it
+  module _ (l : List Pair) (v : Every OfWord l) where
+    abbrev nobody : Pair
+    nobody = pair 0 0
+
+    probe : (i : ℕ) → i < length l → isBefore r t (getD l i nobody) ≡ ltb (pairKey (getD l i nobody)) (pairKey (pair r t))
+    probe i h = key-leads (getD l i nobody) (every-at OfWord nobody i l h v)
+
+    pub rank-high : (i : ℕ) → i < length l → isBefore r t (getD l i nobody) ≡ false → rank (isBefore r t) l ≤ i
+    rank-high i h u = rw (rank-key l v) (rank-most pairKey (pairKey (pair r t)) nobody l i h (sym (probe i h) ∙ u))
+
+    pub rank-low : (i : ℕ) → Ascending pairKey l → i < length l → isBefore r t (getD l i nobody) ≡ true → i < rank (isBefore r t) l
+    rank-low i a h u = rw (rank-key l v) (rank-least pairKey (pairKey (pair r t)) nobody l i a h (sym (probe i h) ∙ u))
+
+    pub names-at : (i : ℕ) → i < length l → isPair r t (getD l i nobody) ≡ true → names l r t ≡ true
+    names-at i h u = sym (has-names l v) ∙ has-at pairKey (pairKey (pair r t)) nobody l i h (key-is (getD l i nobody) (every-at OfWord nobody i l h v) ∙ u)
+
+    pub names-lacks : Ascending pairKey l → (rank (isBefore r t) l < length l → isPair r t (getD l (rank (isBefore r t) l) nobody) ≡ false) → names l r t ≡ false
+    names-lacks a f =
+        let k = rank (isBefore r t) l in
+        let told : k < length l → eqb (pairKey (getD l k nobody)) (pairKey (pair r t)) ≡ false = λ h. key-is (getD l k nobody) (every-at OfWord nobody k l h v) ∙ f h in
+        sym (has-names l v) ∙ ranked-lacks pairKey (pairKey (pair r t)) nobody l a (rw (rank-key l v) at told)
 
 pub pairs-words : (x : Issuers) → Every Word (x .transactions) → Every OfWord (pairsIn x)
 pairs-words x v =

@@ -1,12 +1,12 @@
 -- The whole arrays of the issuer index side by side: the pairs in use are their front.
 -- Assumes nothing.
-use Prim.Native.Nat.{ℕ}
+use Prim.Native.Nat.{ℕ, _<_}
 use mathlib.Core.Path.{_≡_, _∙_, sym, ap}
 use mathlib.Core.Bool.{Bool}
 use mathlib.Core.List.{List}
 use native.Mathlib.Omega.{arith}
 use lib.ListN.{length, take, getD}
-use lib.Seq.{length-take-le}
+use lib.Seq.{length-take-le, getD-take}
 use Rattle.lists.specs.Lists.{zipBy}
 use Rattle.lists.proofs.Pairs.{zip-length, zip-take, zip-getD}
 use Rattle.rules.specs.Index.{Pair}
@@ -30,6 +30,10 @@ module _ (x : Issuers) where
   pub sides-told : (p : Pair → Bool) (i : ℕ) (r b : Bool) → Sound x → r ≡ p (pair (getD (x .records) i 0) (getD (x .transactions) i 0)) → r ≡ b →
       p (getD (sides x) i (pair 0 0)) ≡ b
   sides-told p i r b h e q = ap p (sides-at i 0 0 h) ∙ sym e ∙ q
+
+  pub pairs-told : (p : Pair → Bool) (i : ℕ) (r b : Bool) → Sound x → i < x .len → r ≡ p (pair (getD (x .records) i 0) (getD (x .transactions) i 0)) → r ≡ b →
+      p (getD (pairsIn x) i (pair 0 0)) ≡ b
+  pairs-told p i r b h u e q = ap p (ap (λ l. getD l i (pair 0 0)) (sym (sides-front x)) ∙ getD-take (x .len) (sides x) i (pair 0 0) u) ∙ sides-told p i r b h e q
 
   pub pairs-length : Sound x → length (pairsIn x) ≡ x .len
   pairs-length h = ap length (sym (sides-front x)) ∙ length-take-le (x .len) (sides x) (omega (arith, sides-length h, h .room))

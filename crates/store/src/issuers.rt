@@ -60,7 +60,7 @@ fn is_named(
     false
 }
 
-// How many of the first n pairs stand before (r, t).
+// How many of the first n pairs stand before (r, t), by halves.
 fn rank(
     records: &[u64; 384],
     transactions: &[u64; 384],
@@ -68,18 +68,38 @@ fn rank(
     r: RecordKey,
     t: Transaction,
 ) -> usize
-    requires { ⌜ Sound (made (now records) (now transactions) n) ⌝ }
+    requires { ⌜ Sound (made (now records) (now transactions) n) × Rising (made (now records) (now transactions) n) × Worded (made (now records) (now transactions) n) ⌝ }
     ensures { λ x. ⌜ x ≡ rank (isBefore (r .0) (t .0)) (pairsIn (made (now (records .entry)) (now (transactions .entry)) n)) ⌝ }
 {
-    let mut i: usize = 0;
-    while i < n {
-        if leads(records[i], transactions[i], r.0, t.0) {
-            i += 1;
+    let mut low: usize = 0;
+    let mut high = n;
+    while low < high {
+        let mid = (low + high) / 2;
+        if leads(records[mid], transactions[mid], r.0, t.0) {
+            low = mid + 1;
         } else {
-            return i;
+            high = mid;
         }
     }
-    i
+    low
+}
+
+// Whether the pair that ranks at k among the first n stands there.
+fn stands_at(
+    records: &[u64; 384],
+    transactions: &[u64; 384],
+    n: usize,
+    k: usize,
+    r: RecordKey,
+    t: Transaction,
+) -> bool
+    requires { ⌜ Sound (made (now records) (now transactions) n) × Rising (made (now records) (now transactions) n) × Worded (made (now records) (now transactions) n) × (k ≡ rank (isBefore (r .0) (t .0)) (pairsIn (made (now records) (now transactions) n))) ⌝ }
+    ensures { λ x. ⌜ x ≡ names (pairsIn (made (now (records .entry)) (now (transactions .entry)) n)) (r .0) (t .0) ⌝ }
+{
+    if k < n {
+        return is_pair(records[k], transactions[k], r.0, t.0);
+    }
+    false
 }
 
 // A pair put in at k among the first n: those from k on move up by one, from the end.
@@ -117,10 +137,10 @@ pub fn name(
     requires { ⌜ Sound (made (now records) (now transactions) n) × Rising (made (now records) (now transactions) n) × Worded (made (now records) (now transactions) n) × roomFor (made (now records) (now transactions) n) (r .0) (t .0) ⌝ }
     ensures { λ x. ⌜ Holds (include pairKey (pair (r .0) (t .0)) (pairsIn (made (now (records .entry)) (now (transactions .entry)) n))) (made (now (records .exit)) (now (transactions .exit)) x) × Worded (made (now (records .exit)) (now (transactions .exit)) x) ⌝ }
 {
-    if is_named(records, transactions, n, r, t) {
+    let k = rank(records, transactions, n, r, t);
+    if stands_at(records, transactions, n, k, r, t) {
         return n;
     }
-    let k = rank(records, transactions, n, r, t);
     open(records, transactions, n, k, r, t);
     n + 1
 }

@@ -2,7 +2,7 @@
 -- Assumes nothing.
 use Prim.Native.Nat.{ℕ, zero, suc, _+_, _*_, _≤_, _<_}
 use mathlib.Core.Path.{_≡_, refl, sym, ap, _∙_}
-use mathlib.Core.Bool.{Bool, true, false, not, _||_}
+use mathlib.Core.Bool.{Bool, true, false, true≢false, not, _||_}
 use mathlib.Core.List.{List, [], _∷_, _++_, map, append-assoc, append-nil}
 use native.Mathlib.Omega.{arith}
 use native.Mathlib.Numerals.{add-one, add-two}
@@ -65,6 +65,13 @@ join-none [] ds h = refl
 join-none (b ∷ bs) [] h = absurd (omega arith)
 join-none (b ∷ bs) (d ∷ ds) h = rw (or-false b, join-none bs ds (omega arith))
 
+-- flags that are all up, whatever they are joined with
+join-up : (f : Departure → Bool) (bs : List Bool) (ds : List Departure) → length bs ≡ length ds → any not bs ≡ false → zipBy (λ b d. b || f d) bs ds ≡ bs
+join-up f [] ds h u = refl
+join-up f (b ∷ bs) [] h u = absurd (omega arith)
+join-up f (true ∷ bs) (d ∷ ds) h u = ap (λ l. true ∷ l) (join-up f bs ds (omega arith) u)
+join-up f (false ∷ bs) (d ∷ ds) h u = absurd (true≢false u)
+
 -- what stands at a place set there again
 set-same : {A : Type 0} (l : List A) (i : ℕ) (x : A) → getD l i x ≡ x → set l i x ≡ l
 set-same [] i x h = refl
@@ -94,6 +101,7 @@ module _ (stands tells : Entry → Bool) (row : Entry → List ℕ) (held : Depa
     pub stayLength : length (r .stay) ≡ 48
     pub neededLength : length (r .needed) ≡ 32
     pub wordsLength : length (r .words) ≡ 144
+    pub shut : r .spare ≡ false → any not (take (length ds) (r .needed)) ≡ false
     pub clear : Every (λ b. b ≡ false) (drop i (r .stay))
     pub flags : take i (r .stay) ++ map stands (drop i es) ≡ map stands es
     pub needs : zipBy (λ b d. b || any (held d) (keep stands (drop i es))) (take (length ds) (r .needed)) ds ≡ map (λ d. any (held d) (keep stands es)) ds
@@ -102,7 +110,7 @@ module _ (stands tells : Entry → Bool) (row : Entry → List ℕ) (held : Depa
     pub gone : r .fallen + length (falling (drop i es)) ≡ length (falling es)
 
   module _ (es : List Entry) (ds : List Departure) (few-ds : length ds ≤ 32) where
-    pub judging-none : Judging es ds (record { stay = replicate 48 false; needed = replicate 32 false; words = replicate 144 0; reports = 0; fallen = 0 }) 0
+    pub judging-none : Judging es ds (record { stay = replicate 48 false; needed = replicate 32 false; spare = true; words = replicate 144 0; reports = 0; fallen = 0 }) 0
     judging-none =
         record {
           high = omega arith;
@@ -111,6 +119,7 @@ module _ (stands tells : Entry → Bool) (row : Entry → List ℕ) (held : Depa
           stayLength = refl;
           neededLength = refl;
           wordsLength = refl;
+          shut = λ e. absurd (true≢false e);
           clear = every-same (λ b. b ≡ false) 48 false refl;
           flags = refl;
           needs = join-down (λ d. any (held d) (keep stands es)) 32 ds few-ds;
@@ -131,10 +140,10 @@ module _ (stands tells : Entry → Bool) (row : Entry → List ℕ) (held : Depa
         flags-down : stands e ≡ false → take (i + 1) (r .stay) ++ map stands (drop (i + 1) es) ≡ map stands es
         flags-down t = rw (set-same (r .stay) i false (here-clear .0)) at (flags-on false (sym t))
 
-        pub turn-stands : (needed : List Bool) → length needed ≡ 32 → stands e ≡ true →
+        pub turn-stands : (needed : List Bool) (spare : Bool) → length needed ≡ 32 → (spare ≡ false → any not (take (length ds) needed) ≡ false) → stands e ≡ true →
             take (length ds) needed ≡ zipBy (λ b d. b || held d e) (take (length ds) (r .needed)) ds →
-            Judging es ds (record { stay = set (r .stay) i true; needed = needed; words = r .words; reports = r .reports; fallen = r .fallen }) (i + 1)
-        turn-stands needed size t n =
+            Judging es ds (record { stay = set (r .stay) i true; needed = needed; spare = spare; words = r .words; reports = r .reports; fallen = r .fallen }) (i + 1)
+        turn-stands needed spare size shut t n =
             record {
               high = omega arith;
               few = omega (arith, v .few);
@@ -142,6 +151,7 @@ module _ (stands tells : Entry → Bool) (row : Entry → List ℕ) (held : Depa
               stayLength = length-set (r .stay) i true ∙ v .stayLength;
               neededLength = size;
               wordsLength = v .wordsLength;
+              shut = shut;
               clear = rw (drop-set-lt (i + 1) (r .stay) i true (omega arith)) (here-clear .1);
               flags = flags-on true (sym t);
               needs = rw n (join-twice (λ d. held d e) (λ d. any (held d) (keep stands (drop (i + 1) es))) (take (length ds) (r .needed)) ds) ∙ rw (cons, t) at (v .needs);
@@ -150,8 +160,15 @@ module _ (stands tells : Entry → Bool) (row : Entry → List ℕ) (held : Depa
               gone = rw (cons, t) at (v .gone);
             }
 
+        -- every flag is up, so nothing is asked of one that stands
+        pub turn-idle : r .spare ≡ false → stands e ≡ true →
+            Judging es ds (record { stay = set (r .stay) i true; needed = r .needed; spare = r .spare; words = r .words; reports = r .reports; fallen = r .fallen }) (i + 1)
+        turn-idle o t =
+            turn-stands (r .needed) (r .spare) (v .neededLength) (v .shut) t
+            (sym (join-up (λ d. held d e) (take (length ds) (r .needed)) ds (length-take-le (length ds) (r .needed) (omega (arith, v .neededLength))) (v .shut o)))
+
         pub turn-falls : stands e ≡ false → tells e ≡ false →
-            Judging es ds (record { stay = r .stay; needed = r .needed; words = r .words; reports = r .reports; fallen = r .fallen + 1 }) (i + 1)
+            Judging es ds (record { stay = r .stay; needed = r .needed; spare = r .spare; words = r .words; reports = r .reports; fallen = r .fallen + 1 }) (i + 1)
         turn-falls t f =
             record {
               high = omega arith;
@@ -160,6 +177,7 @@ module _ (stands tells : Entry → Bool) (row : Entry → List ℕ) (held : Depa
               stayLength = v .stayLength;
               neededLength = v .neededLength;
               wordsLength = v .wordsLength;
+              shut = v .shut;
               clear = here-clear .1;
               flags = flags-down t;
               needs = rw (cons, t) at (v .needs);
@@ -172,6 +190,7 @@ module _ (stands tells : Entry → Bool) (row : Entry → List ℕ) (held : Depa
             Judging es ds (record {
               stay = r .stay;
               needed = r .needed;
+              spare = r .spare;
               words = set (set (set (r .words) (3 * r .reports) x) (3 * r .reports + 1) y) (3 * r .reports + 2) z;
               reports = r .reports + 1;
               fallen = r .fallen + 1;
@@ -187,6 +206,7 @@ module _ (stands tells : Entry → Bool) (row : Entry → List ℕ) (held : Depa
               stayLength = v .stayLength;
               neededLength = v .neededLength;
               wordsLength = simp length-set (v .wordsLength);
+              shut = v .shut;
               clear = here-clear .1;
               flags = flags-down t;
               needs = rw (cons, t) at (v .needs);

@@ -10,7 +10,7 @@ use borrow.Author.Tests.{ltb-false}
 use lib.Dec.{ltb}
 use lib.ListN.{length, take, drop, getD, set, length-map, List·getD-map}
 use lib.Seq.{sets, sets-eq, getD-take}
-use Rattle.lists.specs.Lists.{keep, keepBy, zipBy, concatMap, Every}
+use Rattle.lists.specs.Lists.{keep, keepBy, any, zipBy, concatMap, Every}
 use Rattle.lists.proofs.Keep.{length-keep}
 use Rattle.lists.proofs.Distinct.{every-at, keepBy-test}
 use Rattle.rules.specs.Numbers.{isTime, isShard, isSpan}
@@ -48,7 +48,7 @@ use Rattle.sweeps.specs.declared.prune.Pruning.{Pruning}
 use Rattle.sweeps.specs.Leaving.{unnamedBy}
 use Rattle.sweeps.specs.Pruning.{orHolds, Reads, begun, Judges, refusalBy}
 use Rattle.sweeps.proofs.Several.{entries-cons, unnamed-index, kept-all}
-use Rattle.sweeps.proofs.Pruning.{Judging, judging-none, turn-stands, turn-falls, turn-told, all-stay, all-needed, all-rows, all-count, all-gone}
+use Rattle.sweeps.proofs.Pruning.{Judging, judging-none, turn-stands, turn-idle, turn-falls, turn-told, all-stay, all-needed, all-rows, all-count, all-gone}
 
 -- The pass as the rules judge.
 module _ (l : Ledger) (now : ℕ) where
@@ -134,16 +134,23 @@ module _ (l : Ledger) (h : Held l) (now : ℕ) where
       unfolding contents
       judgement = said (contents l) (record { local = refl; validity = refl; legSpan = refl; view = s })
 
-      pub pass-stands : x ≡ Stands → (needed : List Bool) → length needed ≡ 32 →
+      pub pass-stands : x ≡ Stands → (needed : List Bool) (spare : Bool) → length needed ≡ 32 → spare ≡ any not (take (v .len) needed) →
           ((ds : List plain.Departure) → Reads ds (v .shards) (v .zeros) (v .cuts) (v .len) → take (v .len) needed ≡ zipBy (orHolds (l .local .0) (plainEntry here)) (take (v .len) (r .needed)) ds) →
-          JudgingIn l now (record { stay = set (r .stay) i true; needed = needed; words = r .words; reports = r .reports; fallen = r .fallen }) (i + 1)
+          JudgingIn l now (record { stay = set (r .stay) i true; needed = needed; spare = spare; words = r .words; reports = r .reports; fallen = r .fallen }) (i + 1)
       unfolding contents
-      pass-stands e needed size n =
+      pass-stands e needed spare size o n =
+          let count = seeing.count (onFile (l .departures)) now v s in
           turn-stands (stands (contents l) now) (telling l now) (rowOf l now) (holding l now) (entriesOf l) (onFile (l .departures)) file-few r i k entries-few
-          (plainEntry here) (omega (arith, entries-length l h)) (entries-cons l h i q d) needed size (rw e at judgement)
-          (rw (seeing.count (onFile (l .departures)) now v s) (n (onFile (l .departures)) (record { good = s .good; shards = s .shards; zeros = s .zeros; cuts = s .cuts })))
+          (plainEntry here) (omega (arith, entries-length l h)) (entries-cons l h i q d) needed spare size (λ z. rw count (sym o ∙ z)) (rw e at judgement)
+          (rw count (n (onFile (l .departures)) (record { good = s .good; shards = s .shards; zeros = s .zeros; cuts = s .cuts })))
 
-      pub pass-falls : x ≡ Falls → JudgingIn l now (record { stay = r .stay; needed = r .needed; words = r .words; reports = r .reports; fallen = r .fallen + 1 }) (i + 1)
+      pub pass-idle : x ≡ Stands → r .spare ≡ false →
+          JudgingIn l now (record { stay = set (r .stay) i true; needed = r .needed; spare = r .spare; words = r .words; reports = r .reports; fallen = r .fallen }) (i + 1)
+      pass-idle e o =
+          turn-idle (stands (contents l) now) (telling l now) (rowOf l now) (holding l now) (entriesOf l) (onFile (l .departures)) file-few r i k entries-few
+          (plainEntry here) (omega (arith, entries-length l h)) (entries-cons l h i q d) o (rw e at judgement)
+
+      pub pass-falls : x ≡ Falls → JudgingIn l now (record { stay = r .stay; needed = r .needed; spare = r .spare; words = r .words; reports = r .reports; fallen = r .fallen + 1 }) (i + 1)
       pass-falls e =
           let j : Says Falls (contents l) now (plainEntry here) = rw e at judgement in
           turn-falls (stands (contents l) now) (telling l now) (rowOf l now) (holding l now) (entriesOf l) (onFile (l .departures)) file-few r i k entries-few
@@ -153,6 +160,7 @@ module _ (l : Ledger) (h : Held l) (now : ℕ) where
           JudgingIn l now (record {
             stay = r .stay;
             needed = r .needed;
+            spare = r .spare;
             words = set (set (set (r .words) (3 * r .reports) (here .tx .0)) (3 * r .reports + 1) covered) (3 * r .reports + 2) (here .charge);
             reports = r .reports + 1;
             fallen = r .fallen + 1;

@@ -10,7 +10,7 @@ use borrow.Author.Tests.{eq-eqb, ne-eqb, eqb-true, eqb-false}
 use lib.Dec.{eqb}
 use lib.ListN.{length, take, drop, getD, set, List·getD-map}
 use lib.Seq.{getD-take, take-suc-set, append-snoc}
-use Rattle.lists.specs.Lists.{consIf, keep, keepBy, has, self, Above, Ascending}
+use Rattle.lists.specs.Lists.{keep, keepBy, has, self, Above, Ascending}
 use Rattle.lists.proofs.Tests.{or-false, and-true, and-false}
 use Rattle.lists.proofs.Keep.{keep-same, keep-and, keep-all}
 use Rattle.lists.proofs.Order.{above-member}
@@ -44,6 +44,13 @@ module _ {A B : Type 0} (f : A → B) where
 
   pub fill-end : (out : List B) (i : ℕ) (l : List A) → length l ≤ i → take i out ++ map f (drop i l) ≡ take i out
   fill-end out i l h = rw (rest-none l i h) (append-nil (take i out))
+
+-- where nobody is gone, nothing is unnamed
+pub none-gone : (bs : List Bool) (ts : List ℕ) (ps : List Pair) → goneBy bs ts ≡ [] → unnamedBy bs ts ps ≡ ps
+none-gone [] ts ps e = refl
+none-gone (b ∷ bs) [] ps e = refl
+none-gone (true ∷ bs) (t ∷ ts) ps e = none-gone bs ts ps e
+none-gone (false ∷ bs) (t ∷ ts) ps e = absurd (omega (arith, ap length e))
 
 -- the entries from a place on, as a loop over the roster meets them
 module _ (l : Ledger) (h : Held l) (i : ℕ) (q : i < l .roster .len) (d : Entry) where

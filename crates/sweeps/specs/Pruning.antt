@@ -1,7 +1,7 @@
 -- What prune decides of each entry and each departure, by place in the roster and on file, and what it makes of a ledger's parts.
 use Prim.Native.Nat.{ℕ, _*_, _≤_}
 use mathlib.Core.Path.{_≡_}
-use mathlib.Core.Bool.{Bool, false, not, _||_}
+use mathlib.Core.Bool.{Bool, true, false, not, _||_}
 use mathlib.Core.List.{List, map}
 use lib.Dec.{ltb}
 use lib.ListN.{length, take, replicate}
@@ -39,7 +39,7 @@ pub record Reads (ds : List Departure) (ss zs cs : List ℕ) (n : ℕ) : Type 0 
 
 -- nothing judged yet
 abbrev pub begun : Pruning
-begun = record { stay = replicate 48 false; needed = replicate 32 false; words = replicate 144 0; reports = 0; fallen = 0 }
+begun = record { stay = replicate 48 false; needed = replicate 32 false; spare = true; words = replicate 144 0; reports = 0; fallen = 0 }
 
 -- who stays, which departures remain, the words of the reports, how many reports and how many fall
 pub record Judges (l : Ledger) (now : ℕ) (r : Pruning) : Type 0 where

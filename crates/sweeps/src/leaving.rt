@@ -35,7 +35,8 @@ fn gone_from(roster: Roster, stay: [bool; 48]) -> Gone
     Gone { transactions, len }
 }
 
-// The index without the pairs of those whose flag is down. Few leave at a time, so each pair is looked for among them.
+// The index without the pairs of those whose flag is down. Few leave at a time, so each pair is looked for among them; mostly nobody
+// does, and the index is not gone through.
 pub fn without_all(issuers: Issuers, roster: Roster, stay: [bool; 48]) -> Issuers
     requires { ⌜ Sound issuers × rosters.Sound roster ⌝ }
     ensures { λ x. ⌜ Holds (unnamedBy (take (roster .len) stay) (keysOf roster) (pairsIn issuers)) x ⌝ }
@@ -43,6 +44,9 @@ pub fn without_all(issuers: Issuers, roster: Roster, stay: [bool; 48]) -> Issuer
     let gone = gone_from(roster, stay);
     let transactions = gone.transactions;
     let m = gone.len;
+    if m == 0 {
+        return issuers;
+    }
     let n = issuers.len;
     let mut named = [false; 384];
     let mut i: usize = 0;

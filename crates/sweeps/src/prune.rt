@@ -1,11 +1,11 @@
 // Prune: the entries that no longer stand fall, some with a report, and the departures that no entry needs any more go with them.
 ghost use Prim.Native.Nat.{_≤_, _<_};
 ghost use mathlib.Core.Path.{_≡_};
-ghost use mathlib.Core.Bool.{true};
+ghost use mathlib.Core.Bool.{true, not};
 ghost use mathlib.Core.List.{List};
 ghost use lib.ListN.{length, take};
 ghost use lib.Seq.{sets};
-ghost use Rattle.lists.specs.Lists.{zipBy, Every};
+ghost use Rattle.lists.specs.Lists.{zipBy, any, Every};
 ghost use Rattle.rules.specs.Plain as plain;
 ghost use Rattle.rules.specs.Numbers.{isShard};
 ghost use Rattle.rules.specs.Calls.{afterPrune};
@@ -30,11 +30,12 @@ use types::Shard;
 use types::Time;
 use types::is_time;
 
-// By place in the roster who stays, by place on file which departures those who stay need, the words of the reports, and how many
-// reports and how many fell.
+// By place in the roster who stays, by place on file which departures those who stay need, whether some departure may still be
+// unneeded, the words of the reports, and how many reports and how many fell.
 pub struct Pruning {
     pub stay: [bool; 48],
     pub needed: [bool; 32],
+    pub spare: bool,
     pub words: [u64; 144],
     pub reports: usize,
     pub fallen: u64,
@@ -47,6 +48,7 @@ impl Pruning {
         Pruning {
             stay: [false; 48],
             needed: [false; 32],
+            spare: true,
             words: [0u64; 144],
             reports: 0,
             fallen: 0,
@@ -80,6 +82,21 @@ fn with_needs<'a>(
         }
     }
     out
+}
+
+// Whether some flag of the first n is down.
+fn some_down(flags: [bool; 32], n: usize) -> bool
+    requires { ⌜ n ≤ 32 ⌝ }
+    ensures { λ r. ⌜ r ≡ any not (take n flags) ⌝ }
+{
+    let mut j: usize = 0;
+    while j < n {
+        if !flags[j] {
+            return true;
+        }
+        j += 1;
+    }
+    false
 }
 
 // The first n words to the front of the lent list.
@@ -153,7 +170,7 @@ fn carried_out(
 }
 
 // Lets fall those that no longer stand, writes the reports, and answers how many it wrote and how many fell. One pass over the roster
-// judges each entry, and puts what it needs or reports beside.
+// judges each entry, and puts what it needs or reports beside; once every departure is needed, no more is asked.
 pub fn prune(mut ledger: Ledger, time: Time, lent: &mut [u64]) -> Done
     requires { ⌜ Held ledger ⌝ }
     ensures { λ r. ⌜ Meets (afterPrune (time .0) (length (now (lent .entry))) (contents ledger)) (now (lent .entry)) (now (lent .exit)) r ⌝ }
@@ -166,10 +183,25 @@ pub fn prune(mut ledger: Ledger, time: Time, lent: &mut [u64]) -> Done
     while i < roster.len {
         let slot = roster.slots[i];
         let e = ledger.entries[slot];
-        match judge(e, local, ledger.validity, ledger.leg_span, time, v) {
+        let verdict = judge(
+            e,
+            local,
+            ledger.validity,
+            ledger.leg_span,
+            time,
+            &v.shards,
+            &v.zeros,
+            &v.cuts,
+            &v.readable,
+            v.len,
+        );
+        match verdict {
             Verdict::Stands => {
                 p.stay[i] = true;
-                p.needed = with_needs(p.needed, e, local, &v.shards, &v.zeros, &v.cuts, v.len);
+                if p.spare {
+                    p.needed = with_needs(p.needed, e, local, &v.shards, &v.zeros, &v.cuts, v.len);
+                    p.spare = some_down(p.needed, v.len);
+                }
             }
             Verdict::Falls => p.fallen += 1,
             Verdict::Told(covered) => {

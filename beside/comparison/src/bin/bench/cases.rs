@@ -48,6 +48,23 @@ impl Swap {
             calls: 1,
         }
     }
+
+    /// Idle lines with how many there are of their shape, a name and a count of numbers: they change nothing, so one costs what another does.
+    pub fn idle_shapes(&self) -> Vec<(&str, f64)> {
+        let shape = |line: &str| {
+            let mut words = line.split(' ');
+            (words.next().map(String::from), words.count())
+        };
+        let mut shapes: Vec<(&str, f64)> = Vec::new();
+        for line in &self.idle {
+            let known = shapes.iter_mut().find(|(one, _)| shape(one) == shape(line));
+            match known {
+                Some((_, count)) => *count += 1.0,
+                None => shapes.push((line, 1.0)),
+            }
+        }
+        shapes
+    }
 }
 
 impl Case {

@@ -1,7 +1,7 @@
 //! The calls that go over all of a full ledger: prune, closes and the long lists.
 
 use crate::cases::{Case, Swap};
-use crate::ledgers::{Entry, FULL, MAKING, departures, line, settlements};
+use crate::ledgers::{Entry, FULL, MAKING, departures, line, rebuilt, settlements};
 
 pub fn cases() -> Vec<Case> {
     [prunes(), closes(), lists()]
@@ -29,45 +29,59 @@ fn executed(open: u64) -> Vec<String> {
 }
 
 fn prunes() -> Vec<Case> {
-    let prune = |now: u64| format!("prune {now} lent 144");
     let stand = |name, open| Case::repeated(name, FULL, &executed(open), prune(31));
     let none_open = 8;
-    let setup = executed(none_open);
-    // A making at the start of each block restores the ledger; at 30 all departures can be read, and nothing falls.
-    let block = |now| [setup.clone(), vec![prune(now)]].concat();
-    let fall = Swap::of_one(block(31), block(30), prune(30));
+    // A record names all entries in one line, for a shard that can be read until 30.
+    let named = [
+        rebuilt(FULL),
+        vec![line("record_terminal", &[5, 14, 1, 30])],
+    ]
+    .concat();
     vec![
         stand("prune, each stands at its first route", 0),
         stand("prune, each stands at its eighth route", 7),
-        Case::swapped(
-            "prune, all fall (their reports' text included)",
-            FULL,
-            &setup,
-            fall,
+        fall("prune, all fall, named (reports' text included)", &named),
+        fall(
+            "prune, all fall, 8 routes (reports' text included)",
+            &executed(none_open),
         ),
     ]
 }
 
+fn prune(now: u64) -> String {
+    format!("prune {now} lent 144")
+}
+
+/// A prune at 31, when all fall, beside one at 30, when all departures can be read and nothing falls. The making at the start of each block
+/// restores the ledger.
+fn fall(name: &'static str, setup: &[String]) -> Case {
+    let block = |now| [setup, &[prune(now)]].concat();
+    let swap = Swap::of_one(block(31), block(30), prune(30));
+    Case::swapped(name, FULL, setup, swap)
+}
+
 fn closes() -> Vec<Case> {
-    let call = "closes lent 96".to_string();
+    let call = "closes lent 96";
     let legs = ledger(|tx| Entry::leg(tx, 8));
-    let (mut early, mut last) = (Vec::new(), Vec::new());
-    for tx in 1..=FULL {
-        let mut settled = settlements(tx, 8);
-        last.extend(settled.pop());
-        early.extend(settled);
-    }
-    let setup = [legs.clone(), early].concat();
-    // The same lines in both blocks, but the idle closes comes before the last settlement of each leg.
-    let with = [&setup[..], &last, std::slice::from_ref(&call)].concat();
-    let without = [&setup[..], std::slice::from_ref(&call), &last].concat();
-    let close = Swap::of_one(with, without, call.clone());
-    let all = "closes of legs, all close (the list's text included)";
+    let early = (1..=FULL).flat_map(|tx| settlements(tx, 7)).collect();
+    let marked = [legs.clone(), early].concat();
+    let row = |name, setup: &[String]| Case::repeated(name, FULL, setup, call.into());
     vec![
-        Case::repeated("closes of legs, none marked", FULL, &legs, call.clone()),
-        Case::repeated("closes of legs, 7 of 8 marked", FULL, &setup, call),
-        Case::swapped(all, FULL, &setup, close),
+        row("closes of legs, none marked", &legs),
+        row("closes of legs, 7 of 8 marked", &marked),
+        all_close(call.into()),
     ]
+}
+
+/// Legs with one record each, since every mark is a line more. The same lines stand in both blocks, but the idle closes before the marks.
+fn all_close(call: String) -> Case {
+    let legs = ledger(|tx| Entry::leg(tx, 1).reaching_nowhere());
+    let marks: Vec<String> = (1..=FULL).flat_map(|tx| settlements(tx, 1)).collect();
+    let closes = std::slice::from_ref(&call);
+    let with = [&legs[..], &marks, closes].concat();
+    let without = [&legs[..], closes, &marks].concat();
+    let name = "closes of 1-record legs, all close (text included)";
+    Case::swapped(name, FULL, &legs, Swap::of_one(with, without, call))
 }
 
 fn lists() -> Vec<Case> {

@@ -27,30 +27,44 @@ pub fn record(tx: u64, n: u64) -> u64 {
     tx * 8 + n
 }
 
-/// An entry as an admission gives it, with eight remote routes, deadline 1000 to 2000, anchor 10 and charge 77.
+/// An entry as an admission gives it, with deadline 1000 to 2000, anchor 10 and charge 77.
 #[derive(Clone, Copy)]
 pub struct Entry {
     tx: u64,
+    /// Whether it has eight remote routes or none.
+    reaches: bool,
     core: &'static [u64],
     /// Crossings from local, each to shard 5.
     edges: u64,
 }
 
 impl Entry {
+    fn new(tx: u64, core: &'static [u64], edges: u64) -> Self {
+        Self {
+            tx,
+            reaches: true,
+            core,
+            edges,
+        }
+    }
+
     pub fn whole(tx: u64) -> Self {
-        let core = &[];
-        Self { tx, core, edges: 0 }
+        Self::new(tx, &[], 0)
     }
 
     pub fn leg(tx: u64, edges: u64) -> Self {
-        let core = &[5];
-        Self { tx, core, edges }
+        Self::new(tx, &[5], edges)
     }
 
     /// A core entry with seven siblings to ask.
     pub fn core(tx: u64, edges: u64) -> Self {
-        let core = &[4, 5, 6, 7, 8, 9, 10, 11];
-        Self { tx, core, edges }
+        Self::new(tx, &[4, 5, 6, 7, 8, 9, 10, 11], edges)
+    }
+
+    /// The same without routes, so that it takes less text.
+    pub fn reaching_nowhere(self) -> Self {
+        let reaches = false;
+        Self { reaches, ..self }
     }
 
     pub fn taken_in(self) -> String {
@@ -63,13 +77,19 @@ impl Entry {
     }
 
     fn admission(self, decomposed: u64) -> String {
-        let Self { tx, core, edges } = self;
+        let Self {
+            tx,
+            reaches,
+            core,
+            edges,
+        } = self;
+        let routes = if reaches { routes(tx) } else { Vec::new() };
         let each = |word| vec![word; edges as usize];
         let ids = (0..edges).map(|n| record(tx, n)).collect();
-        let sizes = vec![8, core.len() as u64, edges];
+        let sizes = vec![routes.len() as u64, core.len() as u64, edges];
         let terms = vec![tx, 1000, 2000, 10, 77, decomposed];
         let (froms, kinds, counts, destinations) = (each(4), each(0), each(1), each(5));
-        let reach = [routes(tx), core.to_vec(), ids].concat();
+        let reach = [routes, core.to_vec(), ids].concat();
         let crossings = [froms, kinds, counts, destinations].concat();
         line(
             "register_committed",

@@ -137,16 +137,13 @@ impl Level {
     /// Calls on an entry in place.
     fn changes(&self) -> Vec<Case> {
         let tx = self.asked();
-        let absence = |tx, n| line("record_absence", &[tx, 5, n]);
-        let settled = |tx, n| line("settled", &[record(self.moved(0), n), tx]);
         vec![
-            self.repeated("absence, known", absence(tx, 0)).pictured(),
-            self.visiting("absence, new", absence),
+            self.repeated("absence, known", line("record_absence", &[tx, 5, 0]))
+                .pictured(),
             self.repeated("certify", line("certify", &[tx, 2]))
                 .pictured(),
             self.repeated("settled, marked", line("settled", &[record(tx, 0), tx]))
                 .pictured(),
-            self.visiting("settled, first mark", settled),
             self.repeated("returned, marked", line("returned", &[record(tx, 0), tx])),
             self.repeated("fated, unknown", line("fated", &[UNKNOWN])),
             self.repeated("finalization, unknown", finalization(&[UNKNOWN])),
@@ -160,9 +157,13 @@ impl Level {
         if tx == 0 {
             return Vec::new();
         }
+        let absence = |tx, n| line("record_absence", &[tx, 5, n]);
+        let settled = |tx, n| line("settled", &[record(self.moved(0), n), tx]);
         vec![
             self.repeated("admission, owed already", Entry::leg(tx, 8).taken_in()),
             self.repeated("abandonment record, entry owed", abandonment(5, tx)),
+            self.visiting("absence, new", absence),
+            self.visiting("settled, first mark", settled),
         ]
     }
 

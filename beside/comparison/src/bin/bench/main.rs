@@ -22,12 +22,13 @@ use layout::Layouts;
 use ledgers::FULL;
 use page::{Page, Row, grouped};
 use picture::Group;
-use timing::Program;
+use timing::{Cost, Program};
+use work::Block;
 
 type Failing<T> = Result<T, Box<dyn Error>>;
 
-const USAGE: &str =
-    "usage: bench REFERENCE PORT ROOT: the two programs to time, and the repository's folder";
+const USAGE: &str = "usage: bench REFERENCE PORT ROOT [ROWS]: the two programs to time, and the repository's folder; with ROWS only the rows \
+                     whose names have that in them are timed, and nothing is written";
 /// The titles of the tables in the picture.
 const PICTURED: [&str; 4] = [
     "Changing calls, 48 entries",
@@ -38,14 +39,18 @@ const PICTURED: [&str; 4] = [
 
 fn main() -> ExitCode {
     let words: Vec<String> = env::args().skip(1).collect();
-    let [rust, port, root] = words.as_slice() else {
-        eprintln!("{USAGE}");
-        return ExitCode::from(2);
+    let (rust, port, root, rows) = match words.as_slice() {
+        [rust, port, root] => (rust, port, root, None),
+        [rust, port, root, rows] => (rust, port, root, Some(rows.as_str())),
+        _ => {
+            eprintln!("{USAGE}");
+            return ExitCode::from(2);
+        }
     };
     let scratch = env::temp_dir().join(format!("bench-{}", process::id()));
     let done = fs::create_dir_all(&scratch)
         .map_err(Into::into)
-        .and_then(|()| Bench::new([rust, port], &scratch)?.run(Path::new(root)));
+        .and_then(|()| Bench::new([rust, port], &scratch)?.run(Path::new(root), rows));
     fs::remove_dir_all(&scratch).ok();
     match done {
         Ok(()) => ExitCode::SUCCESS,
@@ -63,8 +68,6 @@ struct Bench<'a> {
     programs: [Program; 2],
     page: Page,
     hand_over: f64,
-    /// Rows that did not stand out from the noise.
-    left_out: Vec<String>,
 }
 
 impl<'a> Bench<'a> {
@@ -79,18 +82,22 @@ impl<'a> Bench<'a> {
             paths,
             page: Page::default(),
             hand_over: 0.0,
-            left_out: Vec::new(),
         })
     }
 
-    fn run(mut self, root: &Path) -> Failing<()> {
+    fn run(mut self, root: &Path, rows: Option<&str>) -> Failing<()> {
         let layouts = Layouts::read(&root.join("crates"))?;
-        let blocks = work::blocks();
+        let asked = |case: &Case| rows.is_none_or(|rows| case.name.contains(rows));
+        let blocks: Vec<Block> = work::blocks()
+            .into_iter()
+            .filter(|block| asked(&block.case))
+            .collect();
         let groups = [
             ("Changing calls", levels::changing()),
             ("Readings", levels::readings()),
             ("A full ledger gone over", full::cases()),
-        ];
+        ]
+        .map(|(title, cases)| (title, cases.into_iter().filter(asked).collect::<Vec<_>>()));
         let cases = || groups.iter().flat_map(|(_, cases)| cases);
         agreement::check(
             &self.paths,
@@ -104,7 +111,9 @@ impl<'a> Bench<'a> {
             shown.push(self.calls(title, cases)?);
         }
         shown.push(self.blocks(&blocks)?);
-        self.note_left_out();
+        if rows.is_some() {
+            return Ok(());
+        }
         let all = agreement::all_calls(cases().filter(|case| case.entries == FULL))?;
         self.sizes(&layouts, &all)?;
         self.write(root, &shown)
@@ -122,7 +131,7 @@ impl<'a> Bench<'a> {
         Ok(shown)
     }
 
-    fn blocks(&mut self, blocks: &[work::Block]) -> Failing<Vec<Row>> {
+    fn blocks(&mut self, blocks: &[Block]) -> Failing<Vec<Row>> {
         self.page.table("A block's work");
         let mut shown = Vec::new();
         for block in blocks {
@@ -131,7 +140,7 @@ impl<'a> Bench<'a> {
         Ok(shown)
     }
 
-    fn block(&mut self, block: &work::Block) -> Failing<Vec<Row>> {
+    fn block(&mut self, block: &Block) -> Failing<Vec<Row>> {
         let [rust, port] = &self.programs;
         let case = &block.case;
         let lines = [
@@ -147,12 +156,8 @@ impl<'a> Bench<'a> {
         Ok(rows.into_iter().flatten().collect())
     }
 
-    /// Put a row on the page, or note that it is left out.
-    fn row(&mut self, name: String, entries: u64, costs: [Option<f64>; 2]) -> Option<Row> {
-        let [Some(rust), Some(port)] = costs else {
-            self.left_out.push(format!("{name} ({entries})"));
-            return None;
-        };
+    /// Put a row on the page; it is handed back for the picture if its figures are clear.
+    fn row(&mut self, name: String, entries: u64, [rust, port]: [Cost; 2]) -> Option<Row> {
         let row = Row {
             name,
             entries,
@@ -160,17 +165,7 @@ impl<'a> Bench<'a> {
             port,
         };
         self.page.row(&row, self.hand_over);
-        Some(row)
-    }
-
-    fn note_left_out(&mut self) {
-        if !self.left_out.is_empty() {
-            let rows = self.left_out.join("; ");
-            self.page.say("");
-            self.page.say(&format!(
-                "Left out, since they did not stand out from the noise: {rows}."
-            ));
-        }
+        row.is_clear().then_some(row)
     }
 
     fn sizes(&mut self, layouts: &Layouts, all_calls: &str) -> Failing<()> {

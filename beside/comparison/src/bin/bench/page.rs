@@ -1,5 +1,7 @@
 //! The page of tables: every line is printed as it comes and kept for the file.
 
+use crate::timing::Cost;
+
 const COLUMNS: [&str; 6] = [
     "call",
     "entries",
@@ -9,24 +11,37 @@ const COLUMNS: [&str; 6] = [
     "the port in hand-overs",
 ];
 
-const INTRODUCTION: [&str; 3] = [
+const INTRODUCTION: [&str; 4] = [
     "`beside/bench` makes this page and its picture: both sides in one run on the same machine, over the same scripts, whose answers it first \
      finds equal.",
-    "A row is what a call costs on a ledger with so many entries, by the best of several runs: a script that makes the call often \
-     (`repeat`), less one that makes it once; how often is chosen for each side, for runs of some 25 ms. A call that changes the ledger is timed \
-     in a block of lines that restores it, less a block with idle lines of the same length in its place, and what these cost by `repeat` is \
-     added. So the text, and what the programs do around a call, drops out unless the row says otherwise; calls that are named together \
-     are counted together.",
+    "A row is what a call costs on a ledger with so many entries, in the processor's time and by the best of several runs: a script that \
+     makes the call often (`repeat`), less one that makes it once; how often is chosen for each side, for runs of some 25 ms. A call that \
+     changes the ledger is timed in a block of lines that restores it, less a block with idle lines of the same length in its place: the \
+     median difference of runs that take turns, and what the idle lines cost by `repeat` is added. So the text, and what the programs do \
+     around a call, drops out unless the row says otherwise; calls that are named together are counted together.",
+    "Behind ± stands how far a figure scatters, where that is more than a tenth of it. Of a row in which it is more than a third no quotient \
+     is told.",
     "On an empty ledger calls name transactions that are not owed. Where all fall or close, what the Rust frees drops out too: \
      the making that begins either block would free it. `dump` is the script's own and is not timed.",
 ];
 
-/// One row of a table: nanoseconds on both sides.
+/// How many times its error a figure must be to stand without it, and to be set against another.
+const SURE: f64 = 10.0;
+const CLEAR: f64 = 3.0;
+
+/// One row of a table: what both sides cost.
 pub struct Row {
     pub name: String,
     pub entries: u64,
-    pub rust: f64,
-    pub port: f64,
+    pub rust: Cost,
+    pub port: Cost,
+}
+
+impl Row {
+    /// Whether both figures are more than their scatter.
+    pub fn is_clear(&self) -> bool {
+        self.rust.exceeds(CLEAR) && self.port.exceeds(CLEAR)
+    }
 }
 
 #[derive(Default)]
@@ -96,15 +111,29 @@ impl Page {
             rust,
             port,
         } = row;
+        let quotient = |over: f64, under: f64| match row.is_clear() {
+            true => rounded(over / under),
+            false => "?".into(),
+        };
         let cells = [
             name.clone(),
             entries.to_string(),
-            nanoseconds(*rust),
-            nanoseconds(*port),
-            rounded(rust / port),
-            rounded(port / hand_over),
+            told(*rust),
+            told(*port),
+            quotient(rust.value, port.value),
+            quotient(port.value, hand_over),
         ];
         self.say(&format!("| {} |", cells.join(" | ")));
+    }
+}
+
+/// A figure, with its error where that is not small.
+fn told(cost: Cost) -> String {
+    let value = nanoseconds(cost.value);
+    if cost.exceeds(SURE) {
+        value
+    } else {
+        format!("{value} ± {}", nanoseconds(cost.error))
     }
 }
 

@@ -33,7 +33,7 @@ impl Scale {
             groups
                 .iter()
                 .flat_map(|group| group.rows)
-                .flat_map(|row| [row.rust, row.port])
+                .flat_map(|row| [row.rust.value, row.port.value])
         };
         let least = values().fold(f64::INFINITY, f64::min);
         let most = values().fold(1.0, f64::max);
@@ -123,7 +123,8 @@ fn unit(power: i32) -> String {
 fn bars(svg: &mut String, scale: &Scale, row: &Row, y: f64) {
     text(svg, (LEFT - 8.0, y + 16.0), "end", NAME, &row.name);
     let sides = [(row.rust, RUST, y + 1.0), (row.port, PORT, y + 2.0 + BAR)];
-    for (value, colour, y) in sides {
+    for (cost, colour, y) in sides {
+        let value = cost.value;
         let end = scale.place(value);
         rectangle(svg, (LEFT, y), (end - LEFT, BAR), colour);
         let number = nanoseconds(value);

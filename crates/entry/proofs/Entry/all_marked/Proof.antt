@@ -13,10 +13,10 @@ use Rattle.entry.proofs.Entry.all_marked.Statement.{statement}
 use Rattle.entry.proofs.Entry.all_marked.Tie as tie
 
 abbrev Inv-loop : tie.InvT-loop
-Inv-loop local self n i₀ i = (i ≤ n) × (any (waiting (isMarked self) (local .0)) (drop i (edgesOf self)) ≡ any (waiting (isMarked self) (local .0)) (edgesOf self))
+Inv-loop self local froms ids n i₀ i = (i ≤ n) × (any (waiting (isMarked self) (local .0)) (drop i (edgesOf self)) ≡ any (waiting (isMarked self) (local .0)) (edgesOf self))
 
 abbrev μ-loop : tie.MeasureT-loop
-μ-loop local self n i₀ i = n - i
+μ-loop self local froms ids n i₀ i = n - i
 
 cast-n : tie.Need-cast-n Inv-loop μ-loop
 cast-n c = search needs
@@ -27,14 +27,14 @@ loop-holds c = search needs
 mul-is-open : tie.Need-mul-is-open Inv-loop μ-loop
 mul-is-open c = search needs
 
-element-copy-out-is-open : tie.Need-element-copy-out-is-open Inv-loop μ-loop
-element-copy-out-is-open c = search needs
+array-read-is-open : tie.Need-array-read-is-open Inv-loop μ-loop
+array-read-is-open c = search needs
 
 mul-is-open-2 : tie.Need-mul-is-open-2 Inv-loop μ-loop
 mul-is-open-2 c = search needs
 
-element-copy-out-is-open-2 : tie.Need-element-copy-out-is-open-2 Inv-loop μ-loop
-element-copy-out-is-open-2 c = search needs
+array-read-is-open-2 : tie.Need-array-read-is-open-2 Inv-loop μ-loop
+array-read-is-open-2 c = search needs
 
 is-open-requires : tie.Need-is-open-requires Inv-loop μ-loop
 is-open-requires c κs = search needs
@@ -42,10 +42,10 @@ is-open-requires c κs = search needs
 returns : tie.Need-returns Inv-loop μ-loop
 unfolding plainEntry
 returns c =
-    let s = c .before .before .before .before .before .before in
-    let l = c .before .before .before .before .before .loop in
-    let hit = edges-hit (s .args .t1) (s .pre) (waiting (isMarked (s .args .t1)) (s .args .local .0)) (l .i) (omega arith) (sym (c .before .is-open .ensures) ∙ c .if1 .taken) in
-    sym (marked-all (isMarked (s .args .t1)) (s .args .local .0) (plainEntry (s .args .t1) .terms) ∙ ap not (sym (l .inv .1) ∙ hit))
+    let l = c .before .before .before .loop in
+    let s = c .before .before .before .before .before .before .before in
+    let hit = edges-hit (s .args .self) (s .pre) (waiting (isMarked (s .args .self)) (s .args .local .0)) (l .i) (omega arith) (sym (c .before .is-open .ensures) ∙ c .if1 .taken) in
+    sym (marked-all (isMarked (s .args .self)) (s .args .local .0) (plainEntry (s .args .self) .terms) ∙ ap not (sym (l .inv .1) ∙ hit))
 
 add-i : tie.Need-add-i Inv-loop μ-loop
 add-i c = search needs
@@ -56,17 +56,17 @@ loop-less c = search needs
 loop-again : tie.Need-loop-again Inv-loop μ-loop
 unfolding plainEntry
 loop-again c =
-    let s = c .before .before .before .before .before .before in
-    let l = c .before .before .before .before .before .loop in
-    (search needs, edges-miss (s .args .t1) (s .pre) (waiting (isMarked (s .args .t1)) (s .args .local .0)) (l .i) (omega arith) (sym (c .before .is-open .ensures) ∙ c .if1 .left) ∙ l .inv .1)
+    let l = c .before .before .before .loop in
+    let s = c .before .before .before .before .before .before .before in
+    (search needs, edges-miss (s .args .self) (s .pre) (waiting (isMarked (s .args .self)) (s .args .local .0)) (l .i) (omega arith) (sym (c .before .is-open .ensures) ∙ c .if1 .left) ∙ l .inv .1)
 
 returns-2 : tie.Need-returns-2 Inv-loop μ-loop
 unfolding plainEntry
 returns-2 c =
-    let s = c .before .before in
+    let s = c .before .before .before .before .before in
     let l = c .before .loop in
-    let over = edges-done (s .args .t1) (s .pre) (waiting (isMarked (s .args .t1)) (s .args .local .0)) (l .i) (omega arith) in
-    sym (marked-all (isMarked (s .args .t1)) (s .args .local .0) (plainEntry (s .args .t1) .terms) ∙ ap not (sym (l .inv .1) ∙ over))
+    let over = edges-done (s .args .self) (s .pre) (waiting (isMarked (s .args .self)) (s .args .local .0)) (l .i) (omega arith) in
+    sym (marked-all (isMarked (s .args .self)) (s .args .local .0) (plainEntry (s .args .self) .terms) ∙ ap not (sym (l .inv .1) ∙ over))
 
 pub all-marked-spec : {M : Type 1} → statement M
 all-marked-spec =
@@ -77,9 +77,9 @@ all-marked-spec =
     cast-n
     loop-holds
     mul-is-open
-    element-copy-out-is-open
+    array-read-is-open
     mul-is-open-2
-    element-copy-out-is-open-2
+    array-read-is-open-2
     is-open-requires
     returns
     add-i

@@ -12,26 +12,26 @@ use Rattle.lists.proofs.Tests.{and-false, and-both}
 use Rattle.lists.proofs.Loops.{any-hit, any-miss, any-end}
 use Rattle.rules.specs.Plain.{Departure}
 use Rattle.rules.specs.Prune.{counting, answerable}
-use Rattle.judge.specs.View.{Shows}
+use Rattle.judge.specs.View.{view, Shows}
 use Rattle.judge.proofs.Seeing.{Best, overAt, isRemote, answered, none-yet, turn-won, turn-lost, gone-through, said-answers}
 use borrow.Author.Needs.{needs}
 use Rattle.judge.proofs.routes.answers_yet.Statement.{statement}
 use Rattle.judge.proofs.routes.answers_yet.Tie as tie
 
 abbrev Inv-loop : tie.InvT-loop
-Inv-loop n anchor local routes v stands i route led best₀ lowest₀ answers₀ j₀ best lowest answers j =
-    (j ≤ v .len) × ((ds : List Departure) (now : ℕ) → Shows ds now v → Best now (counting (keep (overAt (anchor .0) route) (drop j ds))) best lowest answers)
+Inv-loop n anchor local shards zeros cuts readable len routes stands i route led best₀ lowest₀ answers₀ j₀ best lowest answers j =
+    (j ≤ len) × ((ds : List Departure) (now : ℕ) → Shows ds now (view shards zeros cuts readable len) → Best now (counting (keep (overAt (anchor .0) route) (drop j ds))) best lowest answers)
 
 abbrev μ-loop : tie.MeasureT-loop
-μ-loop n anchor local routes v stands i route led best₀ lowest₀ answers₀ j₀ best lowest answers j = j
+μ-loop n anchor local shards zeros cuts readable len routes stands i route led best₀ lowest₀ answers₀ j₀ best lowest answers j = j
 
 abbrev Inv-routes : tie.InvT-routes
-Inv-routes n anchor local routes v stands₀ i₀ stands i =
+Inv-routes n anchor local shards zeros cuts readable len routes stands₀ i₀ stands i =
     (i ≤ n) × (length routes ≡ 8) × (stands ≡ false)
-    × ((ds : List Departure) (now : ℕ) → Shows ds now v → any (answered now ds (anchor .0) (local .0)) (drop i (take n routes)) ≡ any (answered now ds (anchor .0) (local .0)) (take n routes))
+    × ((ds : List Departure) (now : ℕ) → Shows ds now (view shards zeros cuts readable len) → any (answered now ds (anchor .0) (local .0)) (drop i (take n routes)) ≡ any (answered now ds (anchor .0) (local .0)) (take n routes))
 
 abbrev μ-routes : tie.MeasureT-routes
-μ-routes n anchor local routes v stands₀ i₀ stands i = n - i
+μ-routes n anchor local shards zeros cuts readable len routes stands₀ i₀ stands i = n - i
 
 routes-holds : tie.Need-routes-holds Inv-loop μ-loop Inv-routes μ-routes
 routes-holds c = (search needs, search needs, refl, λ ds now s. refl)
@@ -97,12 +97,11 @@ counts-over-requires : tie.Need-counts-over-requires Inv-loop μ-loop Inv-routes
 counts-over-requires c κs =
     let j = c .before .before .before .before .before .loop .j in
     let s = c .before .before .before .before .before .before .before .before .before .before .before in
-    let v = s .args .t5 in
     let z = s .pre .1 .1 in
-    every-at (λ n. n < 64) 0 (j - 1) (v .zeros) (omega (arith, z .room, z .zeroLength)) (z .within)
+    every-at (λ n. n < 64) 0 (j - 1) (s .args .zeros .now) (omega (arith, z .room, z .zeroLength)) (z .within)
 
-element-copy-out-readable : tie.Need-element-copy-out-readable Inv-loop μ-loop Inv-routes μ-routes
-element-copy-out-readable c = search needs
+element-copy-out-answer : tie.Need-element-copy-out-answer Inv-loop μ-loop Inv-routes μ-routes
+element-copy-out-answer c = search needs
 
 loop-less : tie.Need-loop-less Inv-loop μ-loop Inv-routes μ-routes
 loop-less c = search needs
@@ -114,7 +113,7 @@ loop-again c =
     let a = m .before .before .before .before .before .before .args in
     let route = getD (a .t1) (m .before .before .before .before .before .routes .i) 0 in
     let test = rw (m .before .led-by-one .ensures) at (sym (c .before .counts-over .ensures) ∙ c .if2 .taken) in
-    (omega arith, λ ds now s. turn-won ds now (a .t5) s (a .anchor .0) route (l .j) (l .best) (l .lowest) (l .answers) (omega arith) (omega arith) (l .inv .1 ds now s) false test)
+    (omega arith, λ ds now s. turn-won ds now _ s (a .anchor .0) route (l .j) (l .best) (l .lowest) (l .answers) (omega arith) (omega arith) (l .inv .1 ds now s) false test)
 
 loop-less-2 : tie.Need-loop-less-2 Inv-loop μ-loop Inv-routes μ-routes
 loop-less-2 c = search needs
@@ -126,7 +125,7 @@ loop-again-2 c =
     let a = m .before .before .before .before .before .before .args in
     let route = getD (a .t1) (m .before .before .before .before .before .routes .i) 0 in
     let test = rw (m .before .led-by-one .ensures) at (sym (c .before .counts-over .ensures) ∙ c .if2 .left) in
-    (omega arith, λ ds now s. turn-lost ds now (a .t5) s (a .anchor .0) route (l .j) (l .best) (l .lowest) (l .answers) (omega arith) (omega arith) (l .inv .1 ds now s) test)
+    (omega arith, λ ds now s. turn-lost ds now _ s (a .anchor .0) route (l .j) (l .best) (l .lowest) (l .answers) (omega arith) (omega arith) (l .inv .1 ds now s) test)
 
 add-i-2 : tie.Need-add-i-2 Inv-loop μ-loop Inv-routes μ-routes
 add-i-2 c = search needs
@@ -198,7 +197,7 @@ answers-yet-spec =
     element-copy-out-shard
     mul-cut
     element-copy-out-cut
-    element-copy-out-readable
+    element-copy-out-answer
     mul-counts-over
     element-copy-out-counts-over
     counts-over-requires

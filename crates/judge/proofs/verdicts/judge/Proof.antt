@@ -77,11 +77,13 @@ returns-3 c p faces =
     let e = plainEntry (s .e) in
     let named = c .before .before .if3 .taken in
     let fits = rule-3 (p .local) e (unawaited b) (settled a ∙ c .before .before .before .if2 .left) named in
-    let same = c .told .ensures ∙ ap (unlessTold 1) (c .before .named-readable .ensures (p .departures) (s .time .0) e (faces .view) refl named) in
+    let same = c .told .ensures ∙ ap (unlessTold 1) (c .before .named-readable .ensures (p .departures) (s .time .0) _ _ e (faces .view) refl named) in
     subst (λ v. Says v p (s .time .0) e) (sym same) (says-told p (s .time .0) e recorded fits refl)
 
 by-routes-requires : tie.Need-by-routes-requires
-by-routes-requires c κs = search needs
+by-routes-requires c κs =
+    let h = c .before .before .before .before .before .before .before .pre in
+    (h .0, (h .1 .0, (h .1 .1 .0, (h .1 .1 .1 .0, h .1 .1 .1 .1 .1))))
 
 returns-4 : tie.Need-returns-4
 unfolding plainEntry

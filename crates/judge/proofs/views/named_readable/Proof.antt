@@ -8,21 +8,21 @@ use native.Mathlib.Omega.{arith}
 use lib.ListN.{drop}
 use Rattle.lists.specs.Lists.{any}
 use Rattle.rules.specs.Plain.{Departure}
-use Rattle.judge.specs.View.{Shows}
+use Rattle.judge.specs.View.{view, Shows}
 use Rattle.judge.proofs.Seeing.{namedOpen, said-named, open-one, open-none, open-past}
 use borrow.Author.Needs.{needs}
 use Rattle.judge.proofs.views.named_readable.Statement.{statement}
 use Rattle.judge.proofs.views.named_readable.Tie as tie
 
 abbrev Inv-loop : tie.InvT-loop
-Inv-loop naming v n i₀ i =
-    (i ≤ n) × (n ≡ v .len) × ((ds : List Departure) (now : ℕ) → Shows ds now v → any (namedOpen now (naming .0)) (drop i ds) ≡ any (namedOpen now (naming .0)) ds)
+Inv-loop naming shards readable n i₀ i =
+    (i ≤ n) × ((ds : List Departure) (now : ℕ) (zs cs : List ℕ) → Shows ds now (view shards zs cs readable n) → any (namedOpen now (naming .0)) (drop i ds) ≡ any (namedOpen now (naming .0)) ds)
 
 abbrev μ-loop : tie.MeasureT-loop
-μ-loop naming v n i₀ i = n - i
+μ-loop naming shards readable n i₀ i = n - i
 
 loop-holds : tie.Need-loop-holds Inv-loop μ-loop
-loop-holds c = (search needs, search needs, λ ds now s. refl)
+loop-holds c = (search needs, λ ds now zs cs s. refl)
 
 mul-is-named-open : tie.Need-mul-is-named-open Inv-loop μ-loop
 mul-is-named-open c = search needs
@@ -37,11 +37,11 @@ is-named-open-requires : tie.Need-is-named-open-requires Inv-loop μ-loop
 is-named-open-requires c κs = search needs
 
 returns : tie.Need-returns Inv-loop μ-loop
-returns c ds now e s en t =
+returns c ds now zs cs e s en t =
     let l = c .before .before .before .before .before .loop in
     let a = c .before .before .before .before .before .before .args in
     said-named now ds e true (a .naming .0) en t
-    (sym (open-one ds now (a .t2) s (a .naming .0) (l .i) false (omega arith) (sym (c .before .is-named-open .ensures) ∙ c .if1 .taken)) ∙ l .inv .2 ds now s)
+    (sym (open-one ds now (view (a .shards .now) zs cs (a .readable .now) (a .n)) s (a .naming .0) (l .i) false (omega arith) (sym (c .before .is-named-open .ensures) ∙ c .if1 .taken)) ∙ l .inv .1 ds now zs cs s)
 
 add-i : tie.Need-add-i Inv-loop μ-loop
 add-i c = search needs
@@ -54,16 +54,15 @@ loop-again c =
     let l = c .before .before .before .before .before .loop in
     let a = c .before .before .before .before .before .before .args in (
       omega arith,
-      refl,
-      λ ds now s.
-          open-none ds now (a .t2) s (a .naming .0) (l .i) false (omega arith) (sym (c .before .is-named-open .ensures) ∙ c .if1 .left) ∙ l .inv .2 ds now s,
+      λ ds now zs cs s.
+          open-none ds now (view (a .shards .now) zs cs (a .readable .now) (a .n)) s (a .naming .0) (l .i) false (omega arith) (sym (c .before .is-named-open .ensures) ∙ c .if1 .left) ∙ l .inv .1 ds now zs cs s,
     )
 
 returns-2 : tie.Need-returns-2 Inv-loop μ-loop
-returns-2 c ds now e s en t =
+returns-2 c ds now zs cs e s en t =
     let l = c .before .loop in
     let a = c .before .before .args in
-    said-named now ds e false (a .naming .0) en t (sym (open-past ds now (a .t2) s (a .naming .0) (l .i) (omega arith)) ∙ l .inv .2 ds now s)
+    said-named now ds e false (a .naming .0) en t (sym (open-past ds now (view (a .shards .now) zs cs (a .readable .now) (a .n)) s (a .naming .0) (l .i) (omega arith)) ∙ l .inv .1 ds now zs cs s)
 
 pub named-readable-spec : {M : Type 1} → statement M
 named-readable-spec =

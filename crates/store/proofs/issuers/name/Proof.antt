@@ -43,27 +43,30 @@ put-in s k x h f o =
     (record { sound = o .sound; pairs = q }, rw q (every-include pairKey OfWord (e s) (l s) (is-word s) (s .pre .2)))
 
 abbrev from : tie.Else1 → tie.Start
-from c = c .before .before .before .before
+from c = c .before .before .before .before .before .before .before
 
 new : (c : tie.Else1) → has pairKey (pairKey (e (from c))) (l (from c)) ≡ false
-new c = stands (from c) _ false (c .before .is-named .ensures) (c .if1 .left)
-
-is-named-requires : tie.Need-is-named-requires
-is-named-requires c κs = search needs
-
-returns : tie.Need-returns
-returns c =
-    let s = c .before .before .before .before in
-    let q = include-known pairKey (e s) (l s) (s .pre .1) (stands s _ true (c .before .is-named .ensures) (c .if1 .taken)) in
-    (record { sound = s .pre .0; pairs = sym q }, s .pre .2)
+new c = stands (from c) _ false (c .before .stands-at .ensures) (c .if1 .left)
 
 rank-requires : tie.Need-rank-requires
 rank-requires c κs = search needs
 
+stands-at-requires : tie.Need-stands-at-requires
+stands-at-requires c κs =
+    let k = c .before .before in
+    let s = k .before .before .before in
+    (s .pre .0, s .pre .1, s .pre .2, k .rank .ensures)
+
+returns : tie.Need-returns
+returns c =
+    let s = c .before .before .before .before .before .before .before in
+    let q = include-known pairKey (e s) (l s) (s .pre .1) (stands s _ true (c .before .stands-at .ensures) (c .if1 .taken)) in
+    (record { sound = s .pre .0; pairs = sym q }, s .pre .2)
+
 open-requires : tie.Need-open-requires
 open-requires c κs =
-    let k = c .before .before in
-    let b = k .before .before .before in
+    let b = c .before .before in
+    let k = b .before .before .before .before in
     let s = from b in
     let n = pairs-length (whole s) (s .pre .0) in (
       s .pre .0,
@@ -76,11 +79,11 @@ add-result c = search needs
 
 returns-2 : tie.Need-returns-2
 returns-2 c =
-    let k = c .before .before .before in
-    let b = k .before .before .before in
+    let b = c .before .before .before in
+    let k = b .before .before .before .before in
     let s = from b in
     let o = c .open .last in
     put-in s (k .rank .result) (made (o .0) (o .1 .0) (s .args .n + 1)) (new b) (k .rank .ensures) (c .open .ensures)
 
 pub name-spec : {M : Type 1} → statement M
-name-spec = tie.close (tie.spec is-named-requires returns rank-requires open-requires add-result returns-2)
+name-spec = tie.close (tie.spec rank-requires stands-at-requires returns open-requires add-result returns-2)

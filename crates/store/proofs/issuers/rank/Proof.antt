@@ -1,32 +1,39 @@
--- What is passed and the rank of what is still to come are the rank of all.
+-- The rank stays between the two ends: a pair that stands before moves the lower one past it, any other the upper one to it.
 -- Assumes nothing.
-use Prim.Native.Nat.{_+_, _-_, _≤_}
-use mathlib.Core.Path.{_≡_, sym, ap, _∙_}
-use native.Mathlib.Nat.{zero-add}
+use Prim.Native.Nat.{_-_, _≤_, _/_, _+_}
 use native.Mathlib.Omega.{arith}
-use lib.ListN.{length, take, drop}
 use Rattle.lists.specs.Arrays.{rank}
-use Rattle.lists.proofs.Loops.{rank-hit, rank-miss, rank-done}
+use Rattle.lists.proofs.Loops.{rank-le}
 use Rattle.store.specs.declared.issuers.Issuers.{Issuers}
 use Rattle.store.specs.Issuers.{made, pairsIn, isBefore}
-use Rattle.store.proofs.Pairs.{sides, sides-length, sides-front, sides-told}
+use Rattle.store.proofs.Pairs.{pairs-length, pairs-told}
+use Rattle.store.proofs.Typed.{Word}
+use Rattle.store.proofs.Keyed.{rank-high, rank-low}
 use borrow.Author.Needs.{needs}
 use Rattle.store.proofs.issuers.rank.Statement.{statement}
 use Rattle.store.proofs.issuers.rank.Tie as tie
 
 abbrev Inv-loop : tie.InvT-loop
-Inv-loop records transactions n r t i₀ i =
-    let x = made records transactions n in
-    (i ≤ n) × (i + rank (isBefore (r .0) (t .0)) (drop i (take n (sides x))) ≡ rank (isBefore (r .0) (t .0)) (pairsIn x))
+Inv-loop records transactions n r t low₀ high₀ low high =
+    let k = rank (isBefore (r .0) (t .0)) (pairsIn (made records transactions n)) in
+    (low ≤ k) × (k ≤ high) × (high ≤ n)
 
 abbrev μ-loop : tie.MeasureT-loop
-μ-loop records transactions n r t i₀ i = n - i
+μ-loop records transactions n r t low₀ high₀ low high = high - low
 
 abbrev whole : tie.Start Inv-loop μ-loop → Issuers
 whole s = made (s .args .records .now) (s .args .transactions .now) (s .args .n)
 
+is-word : (s : tie.Start Inv-loop μ-loop) → Word (s .args .t .0)
+is-word s = search needs
+
 loop-holds : tie.Need-loop-holds Inv-loop μ-loop
-loop-holds c = (search needs, zero-add _ ∙ ap (rank (isBefore (c .args .r .0) (c .args .t .0))) (sides-front (whole c)))
+loop-holds c =
+    let x = whole c in
+    (omega arith, omega (arith, rank-le (isBefore (c .args .r .0) (c .args .t .0)) (pairsIn x), pairs-length x (c .pre .0)), omega arith)
+
+add-mid : tie.Need-add-mid Inv-loop μ-loop
+add-mid c = search needs
 
 mul-leads : tie.Need-mul-leads Inv-loop μ-loop
 mul-leads c = search needs
@@ -43,37 +50,39 @@ element-copy-out-leads-2 c = search needs
 leads-requires : tie.Need-leads-requires Inv-loop μ-loop
 leads-requires c κs = search needs
 
-add-i : tie.Need-add-i Inv-loop μ-loop
-add-i c = search needs
+add-low : tie.Need-add-low Inv-loop μ-loop
+add-low c = search needs
 
 loop-less : tie.Need-loop-less Inv-loop μ-loop
 loop-less c = search needs
 
 loop-again : tie.Need-loop-again Inv-loop μ-loop
 loop-again c =
-    let s = c .before .before .before .before .before .before in
     let l = c .before .before .before .before .before .loop in
+    let s = c .before .before .before .before .before .before in
     let x = whole s in
-    let p = isBefore (s .args .r .0) (s .args .t .0) in
-    let h : length (sides x) ≡ 384 = sides-length x (s .pre) in
-    (search needs, rank-hit p _ (sides x) (l .i) (x .len) (omega arith) (omega arith) (sides-told x p (l .i) _ _ (s .pre) (c .before .leads .ensures) (c .if1 .taken)) ∙ l .inv .1)
+    let ps = pairsIn x in
+    let size = pairs-length x (s .pre .0) in
+    let mid = (l .low + l .high) / 2 in
+    let told = pairs-told x (isBefore (s .args .r .0) (s .args .t .0)) mid _ _ (s .pre .0) (omega arith) (c .before .leads .ensures) (c .if1 .taken) in
+    (omega (arith, rank-low (s .args .r .0) (s .args .t .0) (is-word s) ps (s .pre .2) mid (s .pre .1) (omega (arith, size)) told), l .inv .1, l .inv .2)
+
+loop-less-2 : tie.Need-loop-less-2 Inv-loop μ-loop
+loop-less-2 c = search needs
+
+loop-again-2 : tie.Need-loop-again-2 Inv-loop μ-loop
+loop-again-2 c =
+    let l = c .before .before .before .before .before .loop in
+    let s = c .before .before .before .before .before .before in
+    let x = whole s in
+    let ps = pairsIn x in
+    let size = pairs-length x (s .pre .0) in
+    let mid = (l .low + l .high) / 2 in
+    let told = pairs-told x (isBefore (s .args .r .0) (s .args .t .0)) mid _ _ (s .pre .0) (omega arith) (c .before .leads .ensures) (c .if1 .left) in
+    (l .inv .0, rank-high (s .args .r .0) (s .args .t .0) (is-word s) ps (s .pre .2) mid (omega (arith, size)) told, omega arith)
 
 returns : tie.Need-returns Inv-loop μ-loop
-returns c =
-    let s = c .before .before .before .before .before .before in
-    let l = c .before .before .before .before .before .loop in
-    let x = whole s in
-    let p = isBefore (s .args .r .0) (s .args .t .0) in
-    let h : length (sides x) ≡ 384 = sides-length x (s .pre) in
-    sym (rank-miss p _ (sides x) (l .i) (x .len) (omega arith) (omega arith) (sides-told x p (l .i) _ _ (s .pre) (c .before .leads .ensures) (c .if1 .left))) ∙ l .inv .1
-
-returns-2 : tie.Need-returns-2 Inv-loop μ-loop
-returns-2 c =
-    let s = c .before .before in
-    let l = c .before .loop in
-    let x = whole s in
-    let h : length (sides x) ≡ 384 = sides-length x (s .pre) in
-    sym (rank-done (isBefore (s .args .r .0) (s .args .t .0)) (sides x) (l .i) (x .len) (omega arith) (omega arith)) ∙ l .inv .1
+returns c = omega arith
 
 pub rank-spec : {M : Type 1} → statement M
 rank-spec =
@@ -82,13 +91,15 @@ rank-spec =
     Inv-loop
     μ-loop
     loop-holds
+    add-mid
     mul-leads
     element-copy-out-leads
     mul-leads-2
     element-copy-out-leads-2
     leads-requires
-    add-i
+    add-low
     loop-less
     loop-again
-    returns
-    returns-2)
+    loop-less-2
+    loop-again-2
+    returns)

@@ -18,7 +18,7 @@ use Rattle.rules.specs.Index.{Pair}
 use Rattle.store.specs.Roster.{keysOf}
 use Rattle.store.specs.Issuers.{pair, pairsIn}
 use Rattle.store.proofs.Pairs.{pairs-length}
-use Rattle.sweeps.proofs.Several.{remains, unnamed-keep, gone-among}
+use Rattle.sweeps.proofs.Several.{none-gone, remains, unnamed-keep, gone-among}
 use borrow.Author.Needs.{needs}
 use Rattle.sweeps.proofs.leaving.without_all.Statement.{statement}
 use Rattle.sweeps.proofs.leaving.without_all.Tie as tie
@@ -46,7 +46,7 @@ part-contains-start : tie.Need-part-contains-start Inv-loop μ-loop
 part-contains-start c = search needs
 
 part-contains-end : tie.Need-part-contains-end Inv-loop μ-loop
-part-contains-end c = let g = c .before .before .before .before in omega (arith, g .gone-from .ensures .room, g .gone-from .ensures .size)
+part-contains-end c = let g = c .before .before .before .before .before in omega (arith, g .gone-from .ensures .room, g .gone-from .ensures .size)
 
 mul-contains : tie.Need-mul-contains Inv-loop μ-loop
 mul-contains c = search needs
@@ -70,7 +70,7 @@ loop-again : tie.Need-loop-again Inv-loop μ-loop
 loop-again c =
     let b = c .before .before .before .before in
     let l = b .before .loop in
-    let g = b .before .before .before in
+    let g = b .before .before .before .before in
     let s = g .before in
     let x = s .args .t1 in
     let p = apart (take (g .gone-from .result .len) (g .gone-from .result .transactions)) in
@@ -80,14 +80,21 @@ loop-again c =
     pairs-at pair (x .records) (x .transactions) (x .len) (omega (arith, h .room, h .recordLength)) (omega (arith, h .room, h .transactionLength)) 0 0 (pair 0 0) (l .i) (omega arith) in
     (search needs, search needs, fill-one p (l .named) (pairsIn x) (l .i) (pair 0 0) _ (omega (arith, h .room)) (omega arith) (ap not (simp unary-clauses at (c .contains .ensures)) ∙ sym (ap p at)) (l .inv .2))
 
+returns : tie.Need-returns Inv-loop μ-loop
+returns c =
+    let g = c .before .before in
+    let s = g .before in
+    let none = sym (g .gone-from .ensures .front) ∙ ap (λ m. take m (g .gone-from .result .transactions)) (c .if1 .taken) in
+    record { sound = s .pre .0; pairs = sym (none-gone (take (s .args .roster .len) (s .args .stay)) (keysOf (s .args .roster)) (pairsIn (s .args .t1)) none) }
+
 kept-requires : tie.Need-kept-requires Inv-loop μ-loop
 kept-requires c κs = search needs
 
-returns : tie.Need-returns Inv-loop μ-loop
-returns c =
+returns-2 : tie.Need-returns-2 Inv-loop μ-loop
+returns-2 c =
     let o = c .before .before in
     let l = o .loop in
-    let g = o .before .before in
+    let g = o .before .before .before in
     let s = g .before in
     let x = s .args .t1 in
     let ts = take (g .gone-from .result .len) (g .gone-from .result .transactions) in
@@ -115,6 +122,7 @@ without-all-spec =
     Inv-loop
     μ-loop
     gone-from-requires
+    returns
     loop-holds
     sub-contains
     part-contains-start
@@ -127,4 +135,4 @@ without-all-spec =
     loop-less
     loop-again
     kept-requires
-    returns)
+    returns-2)

@@ -1,7 +1,7 @@
 -- Each turn judges one entry by the rules; those still to come are judged by them too. What is judged is carried out on the parts of
 -- this very ledger.
 -- Assumes nothing.
-use Prim.Native.Nat.{_-_}
+use Prim.Native.Nat.{_-_, _<_}
 use mathlib.Core.Path.{_≡_}
 use mathlib.Core.Logic.{⊎-elim}
 use native.Mathlib.Omega.{arith}
@@ -9,7 +9,7 @@ use lib.ListN.{length}
 use Rattle.store.proofs.Rosters.{slot-within}
 use Rattle.sweeps.specs.Pruning.{Judges}
 use Rattle.sweeps.proofs.Several.{here-fits}
-use Rattle.sweeps.proofs.Reporting.{JudgingIn, pass-none, local-good, validity-good, leg-good, file-good, here-timed, pass-stands, pass-falls, pass-told, passed, reports-few}
+use Rattle.sweeps.proofs.Reporting.{JudgingIn, pass-none, local-good, validity-good, leg-good, file-good, here-timed, pass-stands, pass-idle, pass-falls, pass-told, passed, reports-few}
 use borrow.Author.Needs.{needs}
 use Rattle.sweeps.proofs.prune.prune.Statement.{statement}
 use Rattle.sweeps.proofs.prune.prune.Tie as tie
@@ -51,13 +51,18 @@ element-copy-out-e c =
     let s = b .before .before .before .before .before .before .before in
     slot-within (s .args .t1 .roster) (b .loop .i) (s .pre .roster) (omega arith)
 
+-- a turn is at a place of the roster
+within : (k : tie.In-loop Inv-loop μ-loop) → let b = k .before in let s = b .before .before .before .before .before .before .before in b .loop .i < s .args .t1 .roster .len
+within k = omega arith
+
 judge-requires : tie.Need-judge-requires Inv-loop μ-loop
 judge-requires c κs =
-    let b = c .before .before .before in
+    let k = c .before .before .before .before .before .before .before in
+    let b = k .before in
     let s = b .before .before .before .before .before .before .before in
     let l = s .args .t1 in
     let h = s .pre in
-    (here-fits l h (b .loop .i) (omega arith) _, (local-good l h 0, (here-timed l h 0 (b .loop .i) (omega arith) _, (validity-good l h 0, (leg-good l h 0, b .before .before .of .ensures .sized)))))
+    (here-fits l h (b .loop .i) (within k) _, (local-good l h 0, (here-timed l h 0 (b .loop .i) (within k) _, (validity-good l h 0, (leg-good l h 0, b .before .before .of .ensures .sized)))))
 
 enum-told : tie.Need-enum-told Inv-loop μ-loop
 enum-told c = search needs
@@ -67,13 +72,20 @@ element-write-p c = search needs
 
 with-needs-requires : tie.Need-with-needs-requires Inv-loop μ-loop
 with-needs-requires c κs =
-    let j = c .before .before .before .before .before .before .before in
-    let b = j .before .before .before .before in
+    let j = c .before .before .before .before .before .before .before .before in
+    let k = j .before .before .before .before .before .before .before .before in
+    let b = k .before in
     let s = b .before .before .before .before .before .before .before in
     let l = s .args .t1 in
     let h = s .pre in
     let z = b .before .before .of .ensures .sized in
-    (here-fits l h (b .loop .i) (omega arith) _, (local-good l h 0, (z .room, z .shardLength, z .zeroLength, z .cutLength, z .within)))
+    (here-fits l h (b .loop .i) (within k) _, (local-good l h 0, (z .room, z .shardLength, z .zeroLength, z .cutLength, z .within)))
+
+some-down-requires : tie.Need-some-down-requires Inv-loop μ-loop
+some-down-requires c κs =
+    let j = c .before .before .before .before .before .before .before .before .before .before in
+    let b = j .before .before .before .before .before .before .before .before .before in
+    b .before .before .of .ensures .sized .room
 
 enum-told-2 : tie.Need-enum-told-2 Inv-loop μ-loop
 enum-told-2 c = search needs
@@ -81,8 +93,8 @@ enum-told-2 c = search needs
 add-p : tie.Need-add-p Inv-loop μ-loop
 add-p c = search needs
 
-enum-known-covered : tie.Need-enum-known-covered Inv-loop μ-loop
-enum-known-covered c = search needs
+enum-known-verdict : tie.Need-enum-known-verdict Inv-loop μ-loop
+enum-known-verdict c = search needs
 
 mul-at : tie.Need-mul-at Inv-loop μ-loop
 mul-at c = search needs
@@ -126,16 +138,22 @@ loop-less c = search needs
 loop-again : tie.Need-loop-again Inv-loop μ-loop
 loop-again c =
     let j = c .before in
-    let b = j .before .before .before .before in
+    let k = j .before .before .before .before .before .before .before .before in
+    let b = k .before in
     let v = b .before .before in
     let s = b .before .before .before .before .before .before .before in
+    let at = s .args .t1 in
+    let now = s .args .time .0 in
+    let i = b .loop .i in
     ⊎-elim
     (λ w.
-    let size : length (w .7 .result) ≡ 32 = search needs in
-    rw (w .8) (pass-stands (s .args .t1) (s .pre) (s .args .time .0) (b .loop .i) (omega arith) _ (v .of .result) (v .of .ensures) (j .judge .result) (j .judge .ensures) (b .loop .p) (b .loop .inv) (w .1 .given .1) (w .7 .result) size (w .7 .ensures)))
+    let size : length (w .8 .result) ≡ 32 = search needs in
+    rw (w .11) (pass-stands at (s .pre) now i (within k) _ (v .of .result) (v .of .ensures) (j .judge .result) (j .judge .ensures) (b .loop .p) (b .loop .inv) (w .1 .given .1) (w .8 .result) (w .10 .result) size (w .10 .ensures) (w .8 .ensures)))
     (⊎-elim
-    (λ w. rw (w .2) (pass-falls (s .args .t1) (s .pre) (s .args .time .0) (b .loop .i) (omega arith) _ (v .of .result) (v .of .ensures) (j .judge .result) (j .judge .ensures) (b .loop .p) (b .loop .inv) (w .1 .given .1)))
-    (λ w. rw (w .3) (pass-told (s .args .t1) (s .pre) (s .args .time .0) (b .loop .i) (omega arith) _ (v .of .result) (v .of .ensures) (j .judge .result) (j .judge .ensures) (b .loop .p) (b .loop .inv) (w .1 .given .0 .0) (w .1 .given .1))))
+    (λ w. rw (w .3) (pass-idle at (s .pre) now i (within k) _ (v .of .result) (v .of .ensures) (j .judge .result) (j .judge .ensures) (b .loop .p) (b .loop .inv) (w .1 .given .1) (w .2 .left)))
+    (⊎-elim
+    (λ w. rw (w .2) (pass-falls at (s .pre) now i (within k) _ (v .of .result) (v .of .ensures) (j .judge .result) (j .judge .ensures) (b .loop .p) (b .loop .inv) (w .1 .given .1)))
+    (λ w. rw (w .3) (pass-told at (s .pre) now i (within k) _ (v .of .result) (v .of .ensures) (j .judge .result) (j .judge .ensures) (b .loop .p) (b .loop .inv) (w .1 .given .0 .0) (w .1 .given .1)))))
     (c .match .came)
 
 judged : (k : tie.After-loop Inv-loop μ-loop) → let s = k .before .before .before .before .before .before .before .before in Judges (s .args .t1) (s .args .time .0) (k .before .loop .p)
@@ -184,9 +202,10 @@ prune-spec =
     enum-told
     element-write-p
     with-needs-requires
+    some-down-requires
     enum-told-2
     add-p
-    enum-known-covered
+    enum-known-verdict
     mul-at
     mul-p
     element-write-p-2
