@@ -1,7 +1,7 @@
 -- An abandonment record, group by group: what is still to come does to the ledger in hand what all groups do to the one handed in.
 -- An owed entry takes the shard, any other is rebuilt; that there is room for each was counted before.
 -- Assumes nothing.
-use Prim.Native.Nat.{ℕ, zero, suc, _+_, _-_, _*_, _^_, _≤_, _<_, min}
+use Prim.Native.Nat.{ℕ, zero, suc, _+_, _-_, _*_, _≤_, _<_, min}
 use mathlib.Core.Path.{_≡_, refl, sym, ap, ap₂, _∙_, subst}
 use mathlib.Core.Bool.{Bool, true, false, cond, not}
 use mathlib.Core.List.{List, [], _∷_}
@@ -9,15 +9,15 @@ use native.Mathlib.Omega.{arith}
 use lib.Dec.{ltb}
 use lib.ListN.{length, drop, getD, set, length-map}
 use lib.Seq.{length-take-le}
-use borrow.Author.Tests.{lt-ltb, ltb-false}
-use Rattle.lists.specs.Lists.{Every, Ascending, total, at, has, include, change, self, setOf}
+use borrow.Author.Tests.{ltb-false}
+use Rattle.lists.specs.Lists.{Every, total, at, has, include, change, self, setOf}
 use Rattle.lists.specs.Arrays.{place, rank}
 use Rattle.lists.specs.declared.Found.the-variants.{At, Nothing}
 use Rattle.lists.proofs.Cuts.{rest-none}
 use Rattle.lists.proofs.Distinct.{every-at}
 use Rattle.lists.proofs.Loops.{rank-le}
-use Rattle.lists.proofs.Keep.{any-map, keep-same, every-changeIf, length-changeIf}
-use Rattle.lists.proofs.Order.{ascending-changeIf, ascending-include, every-include, length-include}
+use Rattle.lists.proofs.Keep.{any-map, keep-same}
+use Rattle.lists.proofs.Order.{length-include}
 use Rattle.lists.proofs.Parts.{every-drop}
 use Rattle.rules.specs.Numbers.{isWord, isShard, maxCount}
 use Rattle.rules.specs.Plain as plain

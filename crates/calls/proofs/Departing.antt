@@ -3,7 +3,7 @@
 use Prim.Native.Nat.{ℕ, zero, suc, _≤_, _<_}
 use mathlib.Core.Path.{_≡_, refl, sym, ap, _∙_}
 use mathlib.Core.Bool.{Bool, true, false, cond, not, _&&_, _||_}
-use mathlib.Core.List.{List, []}
+use mathlib.Core.List.{[]}
 use native.Mathlib.Omega.{arith}
 use lib.Dec.{eqb, ltb, leb}
 use lib.ListN.{length}
@@ -14,20 +14,18 @@ use Rattle.lists.specs.Lists.{at, has, change}
 use Rattle.lists.proofs.Keep.{length-changeIf}
 use Rattle.rules.specs.Numbers.{isTime, isShard}
 use Rattle.rules.specs.Plain as plain
-use Rattle.rules.specs.Plain.{Plain, shardOf, withDepartures}
-use Rattle.rules.specs.Index.{index}
-use Rattle.rules.specs.Outcome.{Outcome, done, unless, _gives_then_}
-use Rattle.rules.specs.Calls.{Call, terminal, stamp, step, stamped, departed, terminalRefusal, afterTerminal, stampRefusal, afterStamp}
+use Rattle.rules.specs.Plain.{shardOf, withDepartures}
+use Rattle.rules.specs.Outcome.{done, _gives_then_}
+use Rattle.rules.specs.Calls.{terminal, stamp, stamped, departed, terminalRefusal, afterTerminal, stampRefusal, afterStamp}
 use Rattle.rules.specs.Good.{Good}
 use Rattle.rules.proofs.Kept.{step-good}
 use Rattle.store.specs.declared.departures.Departures.{Departures}
 use Rattle.store.specs.Departures as departures
 use Rattle.store.specs.Departures.{onFile}
 use Rattle.ledger.specs.declared.Ledger.{Ledger}
-use Rattle.ledger.specs.declared.Done.{Done}
 use Rattle.ledger.specs.Contents.{contents, Held}
 use Rattle.ledger.specs.Meets.{Meets}
-use Rattle.ledger.proofs.Lift.{Became, filed, withFile}
+use Rattle.ledger.proofs.Lift.{filed, withFile}
 use Rattle.ledger.proofs.Meeting.{refuses, passes, silent, good-after, says, saysNo}
 use Rattle.calls.specs.Terminals.{isUntil, wordsRefusal, filedAs}
 

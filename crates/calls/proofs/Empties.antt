@@ -1,15 +1,15 @@
 -- An empty ledger is held where its local is a shard and its spans are spans.
 -- Assumes nothing.
 use Prim.Native.Nat.{ℕ, zero, suc}
-use mathlib.Core.Path.{_≡_, refl, sym, ap, _∙_}
-use mathlib.Core.Bool.{Bool, true, false, not, _&&_}
-use mathlib.Core.List.{List, [], _∷_, map}
-use lib.ListN.{length, take, replicate}
+use mathlib.Core.Path.{_≡_, refl, _∙_}
+use mathlib.Core.Bool.{true, false}
+use mathlib.Core.List.{[], _∷_}
+use lib.ListN.{length, replicate}
 use Rattle.lists.specs.Lists.{Every, allOf}
 use Rattle.rules.specs.Numbers.{isShard, isSpan}
-use Rattle.rules.specs.Plain.{Plain, empty}
+use Rattle.rules.specs.Plain.{empty}
 use Rattle.rules.specs.Index.{index}
-use Rattle.rules.specs.Outcome.{done, unless, _gives_then_}
+use Rattle.rules.specs.Outcome.{done}
 use Rattle.rules.specs.Calls.{making, makingRefusal}
 use Rattle.rules.specs.Good.{Good}
 use Rattle.rules.proofs.Kept.{making-good}
@@ -19,10 +19,8 @@ use Rattle.store.specs.Roster as roster
 use Rattle.store.specs.Issuers as issuers
 use Rattle.store.specs.Departures as departures
 use Rattle.ledger.specs.declared.Ledger.{Ledger}
-use Rattle.ledger.specs.declared.Done.{Done}
 use Rattle.ledger.specs.Contents.{contents, Held}
 use Rattle.ledger.specs.Meets.{Meets}
-use Rattle.ledger.proofs.Lift.{Became}
 use Rattle.ledger.proofs.Meeting.{passes, silent, says, saysNo}
 use Rattle.calls.specs.Fresh.{Fresh}
 

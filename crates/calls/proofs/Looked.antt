@@ -1,11 +1,11 @@
 -- An entry looked up and put back: where nothing was found it is as it was, and else it is changed as the call says.
 -- Assumes nothing.
 use Prim.Native.Nat.{ℕ, zero, suc, _≤_, _<_}
-use mathlib.Core.Path.{_≡_, refl, sym, ap, _∙_, subst}
+use mathlib.Core.Path.{_≡_, refl, ap, _∙_, subst}
 use mathlib.Core.Bool.{Bool, true, false}
 use mathlib.Core.List.{List, [], _∷_}
 use native.Mathlib.Omega.{arith}
-use lib.ListN.{length, getD, set}
+use lib.ListN.{getD, set}
 use Rattle.lists.specs.Lists.{Ascending}
 use Rattle.lists.specs.Arrays.{place}
 use Rattle.lists.specs.declared.Found.{Found}
@@ -24,12 +24,11 @@ use Rattle.entry.specs.Entry.{plainEntry, absencesOf, Fits, Means, RoomForAbsen
 use Rattle.entry.proofs.Absent.{length-absences}
 use Rattle.store.specs.Roster.{keysOf, is}
 use Rattle.ledger.specs.declared.Ledger.{Ledger}
-use Rattle.ledger.specs.declared.Done.{Done}
 use Rattle.ledger.specs.Contents.{Held, contents}
 use Rattle.ledger.specs.Meets.{Meets}
-use Rattle.ledger.proofs.Lift.{AtSlot, found-at}
+use Rattle.ledger.proofs.Lift.{found-at}
 use Rattle.calls.specs.Looking.{slotOf, puts, Looked}
-use Rattle.calls.proofs.Single.{absence-shard, absence-unknown, absence-read, absence-full, absence-new, mark-unknown, mark-owed}
+use Rattle.calls.proofs.Single.{absence-read, absence-full, absence-new, mark-owed}
 
 put-back : {A : Type 0} (xs : List A) (i : ℕ) (d : A) → set xs i (getD xs i d) ≡ xs
 put-back [] i d = refl

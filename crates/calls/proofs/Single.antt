@@ -1,31 +1,29 @@
 -- The calls that look up one transaction: what each does where it is owed and where it is not, from what its parts did.
 -- Assumes nothing.
-use Prim.Native.Nat.{ℕ, zero, suc, _+_, _≤_, _<_}
-use mathlib.Core.Path.{_≡_, refl, sym, ap, _∙_}
-use mathlib.Core.Bool.{Bool, true, false, cond, not, _&&_}
-use mathlib.Core.List.{List, [], _∷_}
-use mathlib.Core.Option.{Option, none, some}
+use Prim.Native.Nat.{ℕ, _≤_, _<_}
+use mathlib.Core.Path.{_≡_, refl, ap}
+use mathlib.Core.Bool.{Bool, true, false, _&&_}
+use mathlib.Core.List.{[], _∷_}
+use mathlib.Core.Option.{none}
 use native.Mathlib.Omega.{arith}
-use lib.Dec.{eqb, ltb, leb}
 use lib.ListN.{length, getD, set}
 use borrow.Author.Tests.{lt-ltb, le-ltb, le-leb, lt-leb}
-use Rattle.lists.specs.Lists.{keep, has, get, without, change, include, includeAll}
-use Rattle.lists.specs.Arrays.{place, rank}
+use Rattle.lists.specs.Lists.{keep, change}
+use Rattle.lists.specs.Arrays.{place}
 use Rattle.lists.specs.declared.Found.the-variants.{At, Nothing}
 use Rattle.lists.proofs.Tests.{by-cond}
 use Rattle.lists.proofs.Order.{include-known}
 use Rattle.lists.proofs.Change.{change-same}
 use Rattle.rules.specs.Numbers.{isWord, isShard}
 use Rattle.rules.specs.Plain as plain
-use Rattle.rules.specs.Plain.{Plain, Absence, transactionOf, absenceKey, withEntries, owed, entryOf, isLeg, isSettling, issues}
-use Rattle.rules.specs.Index.{index}
-use Rattle.rules.specs.Entries.{certified, withAbsences, readAbsent, isRead, marked, withMarks}
-use Rattle.rules.specs.Outcome.{Outcome, done, unless, _gives_then_, yesNo}
-use Rattle.rules.specs.Calls.{Call, forget, fated, certify, absence, settled, returned, step, afterForget, isFated, afterFated, certifyRefusal, afterCertify, isNew, isFull, absenceRefusal, afterAbsence, afterMark}
+use Rattle.rules.specs.Plain.{Absence, transactionOf, absenceKey, withEntries, entryOf, isLeg, isSettling, issues}
+use Rattle.rules.specs.Entries.{certified, withAbsences, readAbsent, isRead, marked}
+use Rattle.rules.specs.Outcome.{done, yesNo}
+use Rattle.rules.specs.Calls.{forget, certify, absence, settled, returned, afterForget, afterFated, certifyRefusal, afterCertify, isNew, absenceRefusal, afterAbsence, afterMark}
 use Rattle.rules.specs.Good.{Good}
 use Rattle.rules.proofs.Kept.{step-good}
 use Rattle.entry.specs.declared.Entry.{Entry}
-use Rattle.entry.specs.Entry.{plainEntry, Fits, Means}
+use Rattle.entry.specs.Entry.{plainEntry, Means}
 use Rattle.entry.proofs.Absent.{length-absences}
 use Rattle.store.specs.declared.roster.Roster.{Roster}
 use Rattle.store.specs.declared.issuers.Issuers.{Issuers}
@@ -33,10 +31,9 @@ use Rattle.store.specs.Roster.{keysOf, is, Closed}
 use Rattle.store.specs.Issuers as issuers
 use Rattle.store.specs.Issuers.{isNot, pairsIn}
 use Rattle.ledger.specs.declared.Ledger.{Ledger}
-use Rattle.ledger.specs.declared.Done.{Done}
 use Rattle.ledger.specs.Contents.{contents, Held}
 use Rattle.ledger.specs.Meets.{Meets}
-use Rattle.ledger.proofs.Lift.{withParts, Became, AtSlot, found-at, not-found, changed, let-go, unnamed}
+use Rattle.ledger.proofs.Lift.{withParts, found-at, not-found, changed, let-go, unnamed}
 use Rattle.ledger.proofs.Meeting.{refuses, passes, answers, silent, good-after, says, saysNo, stays}
 
 -- Forget.

@@ -1,7 +1,7 @@
 -- What an empty ledger has before its local and its spans are known to be valid.
 use Prim.Native.Nat.{ℕ}
 use mathlib.Core.Path.{_≡_}
-use mathlib.Core.List.{List, []}
+use mathlib.Core.List.{[]}
 use lib.ListN.{length}
 use Rattle.lists.specs.Lists.{Every}
 use Rattle.rules.specs.Plain.{empty}

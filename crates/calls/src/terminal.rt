@@ -1,6 +1,6 @@
 // Terminal and stamp: where a departed shard's chain was cut, and until when what it left is readable.
 ghost use mathlib.Core.Path.{_≡_};
-ghost use mathlib.Core.Bool.{not, _&&_, _||_};
+ghost use mathlib.Core.Bool.{not, _||_};
 ghost use mathlib.Core.List.{[]};
 ghost use lib.Dec.{leb};
 ghost use lib.ListN.{length};

@@ -7,18 +7,15 @@ use native.Mathlib.Omega.{arith}
 use lib.ListN.{take}
 use Rattle.lists.specs.Lists.{concatMap}
 use Rattle.rules.specs.Plain.{Plain}
-use Rattle.rules.specs.Index.{index, names, listsRecord}
+use Rattle.rules.specs.Index.{names, listsRecord}
 use Rattle.rules.specs.Good.{Good}
-use Rattle.rules.specs.Prune.{Report, reportWords, reports, fallen, pruned, prunes, allReports, inOrder, lastOf, AsOnce}
-use Rattle.rules.specs.Calls.{Call, step}
+use Rattle.rules.specs.Prune.{Report, reportWords, reports, fallen, pruned, allReports, inOrder, lastOf, AsOnce}
 use Rattle.rules.proofs.Once.{as-once}
 use Rattle.rules.proofs.Named.{index-names}
 use Rattle.ledger.specs.declared.Ledger.{Ledger}
-use Rattle.ledger.specs.declared.Done.{Done}
 use Rattle.ledger.specs.Contents.{contents, Held}
-use Rattle.ledger.specs.Meets.{Meets}
 use Rattle.claim.specs.declared.Replayed.{Replayed}
-use Rattle.claim.specs.Claim.{Steps, reportsIn, PrunesAll, Equals, Clocks, Pruned}
+use Rattle.claim.specs.Claim.{reportsIn, PrunesAll, Equals, Clocks, Pruned}
 
 pub equals : (p : Plain) (l : Ledger) → Held l → contents l ≡ p → Equals p l
 equals p l h e =

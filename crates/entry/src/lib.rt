@@ -1,13 +1,13 @@
 // An entry: one transaction that is owed an ending (the Rust's `Owed`), and what each kind of call asks and changes of it.
 ghost use mathlib.Core.Path.{_≡_};
-ghost use mathlib.Core.Bool.{_&&_, _||_, not};
+ghost use mathlib.Core.Bool.{_&&_, _||_, not, true};
 ghost use Prim.Native.Nat.{_≤_, _<_};
 ghost use lib.Dec.{eqb, ltb};
 ghost use lib.ListN.{take};
 ghost use Rattle.lists.specs.Lists.{all, has, include, self as itself, filled, zipBy};
 ghost use Rattle.lists.specs.Arrays.{rank as rankOf};
-ghost use Rattle.rules.specs.Numbers.{recordKey};
-ghost use Rattle.rules.specs.Plain.{isCore, isLeg, isSettling, isCovered, issued, issues, owes, remainder, absenceKey};
+ghost use Rattle.rules.specs.Numbers.{recordKey, isShard};
+ghost use Rattle.rules.specs.Plain.{isCore, isLeg, isSettling, isCovered, issued, issues, owes, remote, remainder, absenceKey};
 ghost use Rattle.rules.specs.Entries.{certified, withNaming, withPart, withMarks, marked, readAbsent, isRead, isClosed};
 ghost use Rattle.rules.specs.Good.{GoodEntry};
 ghost use Rattle.entry.specs.Entry.{plainEntry, plainPart, absence, below, lower, isMarked, Fits, Means, Opened, RoomForAbsence, RoomForMark};
@@ -266,6 +266,24 @@ impl Entry {
         let mut i: usize = 0;
         while i < n {
             if is_debt(self.froms[i], self.kinds[i], local) {
+                return true;
+            }
+            i += 1;
+        }
+        false
+    }
+
+    // Whether local does not own some route of it.
+    pub fn reaches_beyond(self, local: Shard) -> bool
+        requires { ⌜ Fits self ⌝ }
+        requires { ⌜ isShard (local .0) ≡ true ⌝ }
+        ensures { λ r. ⌜ r ≡ filled (remote (local .0) (plainEntry self .terms)) ⌝ }
+    {
+        let routes = self.routes;
+        let n = self.routes_len as usize;
+        let mut i: usize = 0;
+        while i < n {
+            if !local.owns(routes[i]) {
                 return true;
             }
             i += 1;

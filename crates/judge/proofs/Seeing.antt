@@ -9,15 +9,14 @@ use native.Mathlib.Omega.{arith}
 use borrow.Author.Tests.{ltb-true, lt-ltb, leb-true, eq-eqb, ne-eqb}
 use lib.Dec.{eqb, ltb, leb}
 use lib.ListN.{length, drop, getD, drop-of-length-le}
-use Rattle.lists.specs.Lists.{keep, any, filled}
+use Rattle.lists.specs.Lists.{keep, any}
 use Rattle.lists.proofs.Counting.{front-at, front-length, rest-down, any-from, any-past}
-use Rattle.lists.proofs.Listing.{filled-kept}
 use Rattle.lists.proofs.Picked.{any-kept}
 use Rattle.lists.proofs.Distinct.{every-at}
 use Rattle.lists.proofs.Tests.{or-left, and-left, and-both, and-false}
 use Rattle.lists.proofs.Keep.{any-same}
 use Rattle.rules.specs.Numbers.{owns, isShard}
-use Rattle.rules.specs.Plain.{Departure, Terms, Entry, shardOf, remote, isNamed}
+use Rattle.rules.specs.Plain.{Departure, Entry, shardOf, isNamed}
 use Rattle.rules.specs.Prune.{readable, counting, earlier, countsBefore, answerable, isOfNaming, holds}
 use Rattle.rules.specs.Good.{GoodDeparture}
 use Rattle.types.proofs.Bits.{topped, owned}
@@ -116,9 +115,6 @@ module _ (now : ℕ) (d : Departure) (good : GoodDeparture d) where
 -- a remote route; that a list of them has one
 abbrev pub isRemote : ℕ → ℕ → Bool
 isRemote local route = not (owns local route)
-
-pub said-remote : (local : ℕ) (routes : List ℕ) (t : Terms) (r : Bool) → r ≡ any (isRemote local) routes → t .routes ≡ routes → r ≡ filled (remote local t)
-said-remote local routes t r e h = e ∙ sym (filled-kept (isRemote local) routes) ∙ ap (λ l. filled (keep (isRemote local) l)) (sym h)
 
 -- a departure over a remote route, as it is told, and that some route of an entry is one
 abbrev pub toldRemote : ℕ → ℕ → ℕ → ℕ → ℕ → ℕ → Bool

@@ -8,9 +8,7 @@ ghost use mathlib.Core.List.{List};
 ghost use lib.Dec.{eqb, ltb, leb};
 ghost use lib.ListN.{take};
 ghost use Prim.Native.Nat.{ℕ, _+_, _/_, _^_, _≤_, _<_};
-ghost use Rattle.lists.specs.Lists.{filled};
 ghost use Rattle.rules.specs.Plain as plain;
-ghost use Rattle.rules.specs.Plain.{remote};
 ghost use Rattle.rules.specs.Numbers.{isShard, owns};
 ghost use Rattle.rules.specs.Prune.{holds};
 ghost use Rattle.entry.specs.Entry.{plainEntry, Fits};
@@ -107,22 +105,6 @@ pub fn answers_yet<'a>(
         i += 1;
     }
     stands
-}
-
-// Whether some route is remote.
-pub fn reaches_beyond(routes: [u64; 8], n: usize, local: Shard) -> bool
-    requires { ⌜ n ≤ 8 ⌝ }
-    requires { ⌜ isShard (local .0) ≡ true ⌝ }
-    ensures { λ r. ⌜ ((t : plain.Terms) → t .routes ≡ take n routes → r ≡ filled (remote (local .0) t)) ⌝ }
-{
-    let mut i: usize = 0;
-    while i < n {
-        if !local.owns(routes[i]) {
-            return true;
-        }
-        i += 1;
-    }
-    false
 }
 
 // Whether a departure is over a route that local does not own.

@@ -88,10 +88,10 @@ fn by_routes<'a>(
     requires { ⌜ Sized (view (now shards) (now zeros) (now cuts) (now readable) len) ⌝ }
     ensures { λ r. ⌜ ((p : plain.Plain) (l : ℕ) → Faces p (time .0) (local .0) validity l (view (now (shards .entry)) (now (zeros .entry)) (now (cuts .entry)) (now (readable .entry)) len) → r ≡ byRoutes p (time .0) (plainEntry e)) ⌝ }
 {
-    let routes = e.routes;
-    let n = e.routes_len as usize;
     if 0 < e.certified {
-        if routes::reaches_beyond(routes, n, local) {
+        if e.reaches_beyond(local) {
+            let routes = e.routes;
+            let n = e.routes_len as usize;
             let anchor = e.anchor;
             let yet = routes::answers_yet(
                 routes,

@@ -1,24 +1,24 @@
 -- From what the arrays hold to what the ledger means: a transaction found, its entry changed, one taken in, one let go.
 -- Assumes nothing.
-use Prim.Native.Nat.{ℕ, zero, suc, _+_, _-_, _≤_, _<_}
-use mathlib.Core.Path.{_≡_, refl, sym, ap, ap₂, _∙_, subst}
-use mathlib.Core.Bool.{Bool, true, false}
-use mathlib.Core.List.{List, [], _∷_, _++_, map}
-use mathlib.Core.Option.{Option, none, some}
+use Prim.Native.Nat.{ℕ, _-_, _<_}
+use mathlib.Core.Path.{_≡_, sym, ap, ap₂, _∙_}
+use mathlib.Core.Bool.{true, false}
+use mathlib.Core.List.{List, map}
+use mathlib.Core.Option.{some}
 use native.Mathlib.Omega.{arith}
-use lib.Dec.{eqb, ltb}
-use lib.ListN.{length, take, getD, set, length-map, length-set, List·getD-map}
+use lib.Dec.{ltb}
+use lib.ListN.{length, getD, set, length-map, length-set, List·getD-map}
 use lib.Seq.{length-take-le, getD-take, getD-set-same}
-use Rattle.lists.specs.Lists.{keep, Every, Ascending, at, has, get, without, change, include, includeAll, self}
-use Rattle.lists.specs.Arrays.{insertAt, removeAt, place, rank, Distinct}
+use Rattle.lists.specs.Lists.{keep, Ascending, at, has, get, without, change, include, includeAll, self}
+use Rattle.lists.specs.Arrays.{insertAt, removeAt, place, rank}
 use Rattle.lists.specs.declared.Found.the-variants.{At, Nothing}
-use Rattle.lists.proofs.Loops.{Located, Missing, located, missing, map-place, map-rank, include-rank}
+use Rattle.lists.proofs.Loops.{Missing, located, missing, map-place, map-rank, include-rank}
 use Rattle.lists.proofs.Distinct.{every-set, every-at, distinct-take, take-lacks, map-insertAt, map-removeAt, read-elsewhere, read-stored}
 use Rattle.lists.proofs.Change.{every-get}
 use Rattle.lists.proofs.Maps.{map-set, getD-any, map-changeIf}
 use Rattle.rules.specs.Plain as plain
 use Rattle.rules.specs.Plain.{Plain, transactionOf, withEntries, withDepartures}
-use Rattle.rules.specs.Index.{Pair, pairKey, pairsOf, indexOf, index}
+use Rattle.rules.specs.Index.{pairKey, pairsOf, indexOf, index}
 use Rattle.rules.specs.Good.{Good, GoodEntry}
 use Rattle.rules.proofs.Named.{IsOfWord, good-words}
 use Rattle.rules.proofs.Reindex.{indexOf-without, indexOf-include, indexOf-change}

@@ -1,9 +1,8 @@
 -- How a call meets its contract: one law for every refusal, one for a call that goes through and is lent no list.
 -- Assumes nothing.
-use Prim.Native.Nat.{ℕ, zero, suc}
-use mathlib.Core.Path.{_≡_, refl, sym, ap, _∙_}
+use Prim.Native.Nat.{ℕ, suc}
+use mathlib.Core.Path.{_≡_, refl}
 use mathlib.Core.List.{List, [], _∷_}
-use lib.ListN.{getD}
 use Rattle.rules.specs.Plain.{Plain}
 use Rattle.rules.specs.Good.{Good}
 use Rattle.rules.specs.Outcome.{Outcome, done, unless}

@@ -1,8 +1,7 @@
 -- What the ledger holds, as a plain ledger, and what every ledger that a call handed back has.
-use Prim.Native.Nat.{ℕ, zero, suc, _+_, _≤_, _<_}
+use Prim.Native.Nat.{ℕ}
 use mathlib.Core.Path.{_≡_}
-use mathlib.Core.Bool.{Bool, true, false}
-use mathlib.Core.List.{List, [], _∷_, map}
+use mathlib.Core.List.{List, [], map}
 use lib.ListN.{length, getD}
 use Rattle.lists.specs.Lists.{Every}
 use Rattle.rules.specs.Plain as plain

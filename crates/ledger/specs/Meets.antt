@@ -1,7 +1,7 @@
 -- The one shape of contract for the changing calls: a call answers, does and writes what an outcome says.
 use Prim.Native.Nat.{ℕ}
 use mathlib.Core.Path.{_≡_}
-use mathlib.Core.List.{List, [], _∷_, _++_}
+use mathlib.Core.List.{List, _++_}
 use lib.ListN.{length, drop, getD}
 use Rattle.rules.specs.Outcome.{Outcome}
 use Rattle.ledger.specs.declared.Done.{Done}

@@ -1,17 +1,16 @@
 -- Lists in rising order of a key: what holds after the element with a key is changed, or one is put in, and what is then found.
 -- Assumes nothing.
-use Prim.Native.Nat.{ℕ, zero, suc, _+_, _≤_, _<_}
+use Prim.Native.Nat.{ℕ, suc, _<_}
 use mathlib.Core.Path.{_≡_, refl, sym, ap, ap₂, _∙_}
-use mathlib.Core.List.{List, [], _∷_, _++_, map}
-use mathlib.Core.Bool.{Bool, true, false, cond, not, _&&_, _||_, false≢true, true≢false}
-use mathlib.Core.Option.{Option, none, some}
+use mathlib.Core.List.{List, [], _∷_}
+use mathlib.Core.Bool.{Bool, true, false, cond, not, _||_, true≢false}
+use mathlib.Core.Option.{some}
 use native.Mathlib.Omega.{arith}
-use borrow.Author.Tests.{eqb-true, eqb-false, eq-eqb, ne-eqb, ltb-true, ltb-false}
+use borrow.Author.Tests.{eqb-true, ne-eqb, ltb-true}
 use lib.Dec.{eqb, ltb}
 use lib.ListN.{length}
-use Rattle.lists.specs.Lists.{consIf, keep, any, find, changeIf, Every, at, has, get, without, change, include, includeAll, Above, Ascending, self, setOf}
-use Rattle.lists.proofs.Keep.{keep-same, any-same}
-use Rattle.lists.proofs.Order.{above-weak, above-lacks, any-include, ascending-include, ascending-includeAll}
+use Rattle.lists.specs.Lists.{consIf, keep, Every, at, has, get, change, include, Above, Ascending, self}
+use Rattle.lists.proofs.Order.{above-weak, above-lacks, any-include}
 
 module _ {A : Type 0} (key : A → ℕ) where
   -- nothing has the key: nothing is changed

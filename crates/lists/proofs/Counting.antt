@@ -2,7 +2,7 @@
 -- Assumes nothing.
 use Prim.Native.Nat.{ℕ, zero, suc, _+_, _-_, _≤_, _<_}
 use mathlib.Core.Path.{_≡_, refl, sym, ap, _∙_}
-use mathlib.Core.Bool.{Bool, true, false, _&&_, _||_}
+use mathlib.Core.Bool.{Bool, false, _||_}
 use mathlib.Core.List.{List, [], _∷_, map, map-append}
 use native.Mathlib.Numerals.{add-one}
 use native.Mathlib.Omega.{arith}
@@ -10,7 +10,7 @@ use borrow.Author.Tests.{lt-ltb}
 use lib.Dec.{ltb}
 use lib.ListN.{length, take, drop, getD, set, replicate, length-map, drop-of-length-le, List·getD-map}
 use lib.Seq.{drop-cons, take-suc, take-suc-set, length-take-le, getD-take}
-use Rattle.lists.specs.Lists.{consIf, keep, any, filled, zipBy, Every}
+use Rattle.lists.specs.Lists.{any, filled, zipBy, Every}
 use Rattle.lists.proofs.Maps.{getD-any}
 
 -- what f reads off a list stands in the front of an array

@@ -1,12 +1,12 @@
 -- Laws of keeping, testing and counting over a list.
 -- Assumes nothing.
-use Prim.Native.Nat.{ℕ, zero, suc, _+_, _≤_}
+use Prim.Native.Nat.{suc, _+_, _≤_}
 use mathlib.Core.Path.{_≡_, refl, sym, ap, _∙_}
 use mathlib.Core.Bool.{Bool, true, false, cond, not, _||_, _&&_, false≢true}
 use mathlib.Core.List.{List, [], _∷_, _++_, map, append-assoc, List·Memᴰ, List·Memᴰ·head, List·Memᴰ·tail}
 use native.Mathlib.Omega.{arith}
-use lib.ListN.{length, length-append}
-use Rattle.lists.specs.Lists.{consIf, keep, any, all, filled, changeIf, Every, allOf, concatMap}
+use lib.ListN.{length}
+use Rattle.lists.specs.Lists.{consIf, keep, any, all, changeIf, Every, allOf, concatMap}
 use Rattle.lists.proofs.Tests.{or-left, or-right, or-assoc, or-false, or-same, and-left, and-right}
 
 module _ {A : Type 0} where

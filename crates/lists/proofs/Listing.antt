@@ -1,16 +1,13 @@
 -- Lists told word by word: how many words so many items take, a lent list written item by item, and what is left to be written.
 -- Assumes nothing.
-use Prim.Native.Nat.{ℕ, zero, suc, _+_, _*_, _≤_}
-use mathlib.Core.Path.{_≡_, refl, sym, ap}
-use mathlib.Core.Bool.{Bool, true, false, not, _||_, true≢false}
+use Prim.Native.Nat.{ℕ, suc, _+_, _*_, _≤_}
+use mathlib.Core.Path.{_≡_, refl, ap}
+use mathlib.Core.Bool.{Bool, true, false, _||_}
 use mathlib.Core.List.{List, [], _∷_, _++_}
 use native.Mathlib.Omega.{arith}
-use borrow.Author.Tests.{eqb-true}
-use lib.Dec.{eqb}
 use lib.ListN.{length, drop, set, length-append}
 use lib.Seq.{sets, sets-eq}
-use Rattle.lists.specs.Lists.{consIf, keep, any, filled, has, concatMap, self, Ascending}
-use Rattle.lists.proofs.Order.{above-lacks}
+use Rattle.lists.specs.Lists.{consIf, keep, any, filled, concatMap}
 
 -- something is kept where something passes
 pub filled-kept : {A : Type 0} (q : A → Bool) (l : List A) → filled (keep q l) ≡ any q l
@@ -45,21 +42,3 @@ next-kept p x l m e t = rw (e, t)
 
 pub next-left : {A : Type 0} (p : A → Bool) (x : A) (l m : List A) → l ≡ x ∷ m → p x ≡ false → keep p l ≡ keep p m
 next-left p x l m e t = rw (e, t)
-
--- of rising numbers, one that stands there is left out: they are one fewer
-all-other : (x : ℕ) (l : List ℕ) → has self x l ≡ false → keep (λ y. not (eqb y x)) l ≡ l
-all-other x [] h = refl
-all-other x (y ∷ l) h = go (eqb y x) h (all-other x l)
-  where
-    go : (b : Bool) → b || has self x l ≡ false → (has self x l ≡ false → keep (λ y. not (eqb y x)) l ≡ l) → consIf (not b) y (keep (λ y. not (eqb y x)) l) ≡ y ∷ l
-    go true q ih = absurd (true≢false q)
-    go false q ih = ap (λ m. y ∷ m) (ih q)
-
-pub length-others : (x : ℕ) (l : List ℕ) → Ascending self l → has self x l ≡ true → suc (length (keep (λ y. not (eqb y x)) l)) ≡ length l
-length-others x [] a h = absurd (true≢false (sym h))
-length-others x (y ∷ l) a h = go (eqb y x) refl h (length-others x l (a .1))
-  where
-    go : (b : Bool) → eqb y x ≡ b → b || has self x l ≡ true → (has self x l ≡ true → suc (length (keep (λ y. not (eqb y x)) l)) ≡ length l) →
-        suc (length (consIf (not b) y (keep (λ y. not (eqb y x)) l))) ≡ suc (length l)
-    go true u q ih = ap (λ (m : List ℕ). suc (length m)) (all-other x l (above-lacks self x y l (omega (arith, eqb-true y x u)) (a .0)))
-    go false u q ih = ap suc (ih q)

@@ -3,19 +3,17 @@
 -- Assumes nothing.
 use Prim.Native.Nat.{ℕ, zero, suc, _+_, _-_, _≤_, _<_}
 use mathlib.Core.Path.{_≡_, refl, sym, ap, _∙_, subst}
-use mathlib.Core.List.{List, [], _∷_, _++_, map, append-assoc, append-nil}
-use mathlib.Core.Bool.{Bool, true, false, cond, not, _||_, true≢false, false≢true}
-use mathlib.Core.Option.{Option, none, some}
+use mathlib.Core.List.{List, [], _∷_, _++_, map, append-assoc}
+use mathlib.Core.Bool.{Bool, true, false, cond, not, _||_, true≢false}
+use mathlib.Core.Option.{none, some}
 use native.Mathlib.Numerals.{add-one}
-use native.Mathlib.Nat.{add-zero, add-suc, suc-add}
 use native.Mathlib.Omega.{arith}
-use borrow.Author.Tests.{eqb-true, eqb-false, ne-eqb, eq-eqb, ltb-true, ltb-false, lt-ltb, le-ltb}
+use borrow.Author.Tests.{eqb-true, eqb-false, ne-eqb, ltb-true, ltb-false, lt-ltb, le-ltb}
 use lib.Dec.{eqb, ltb}
-use lib.ListN.{length, take, drop, getD, set, drop-of-length-le, List·getD-map}
-use lib.Seq.{drop-cons, take-suc-set, drop-set-lt, take-set-lt, take-append-le, length-take-le, take-take, getD-take, append-snoc, sets}
-use Rattle.lists.specs.declared.Found.{Found}
+use lib.ListN.{length, take, drop, getD, set, drop-of-length-le}
+use lib.Seq.{drop-cons, take-suc-set, drop-set-lt, take-append-le, length-take-le, take-take, getD-take, append-snoc}
 use Rattle.lists.specs.declared.Found.the-variants.{At, Nothing}
-use Rattle.lists.specs.Lists.{consIf, keep, any, find, changeIf, at, has, get, without, change, include, total, concatMap, Above, Ascending}
+use Rattle.lists.specs.Lists.{consIf, any, at, has, get, without, change, include, Ascending}
 use Rattle.lists.specs.Arrays.{insertAt, removeAt, place, rank}
 use Rattle.lists.proofs.Order.{above-lacks}
 use Rattle.lists.proofs.Change.{change-lacking}
@@ -81,8 +79,6 @@ rest-cons d a i n h₁ h₂ =
 
 pub rest-end : {A : Type 0} (a : List A) (i n : ℕ) → n ≤ i → n ≤ length a → drop i (take n a) ≡ []
 rest-end a i n h₁ h₂ = drop-of-length-le (take n a) {i = i} (omega (arith, length-take-le n a h₂))
-
--- a sum: s + total f (what is to come) stays
 
 -- a test of some: any p (what is to come) stays
 
@@ -267,12 +263,3 @@ push-one out a d j i n h₁ h₂ h₃ =
     let e₀ : length (take n a) ≡ n = length-take-le n a h₃ in
     let e₁ : getD (take n a) i d ≡ getD a i d = getD-take n a i d h₂ in
     rw (add-one j, add-one i, take-suc-set out j (getD a i d) h₁, drop-cons (take n a) i d (omega arith), e₁, append-snoc (take j out) (getD a i d))
-
--- keeping: w elements are kept, and those from i up to n are still to be looked at
-
-abbrev pub keeping : {A : Type 0} → (A → Bool) → ℕ → ℕ → ℕ → List A → List A
-keeping p w i n a = take w a ++ keep p (drop i (take n a))
-
--- the same from one array, which is not written, into another
-
--- saying: what f says of those of the first n of a, from i on, that pass the test

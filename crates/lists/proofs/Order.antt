@@ -1,17 +1,16 @@
 -- Lists whose keys rise strictly: what each change keeps, and what is found after it.
 -- Assumes nothing.
-use Prim.Native.Nat.{ℕ, zero, suc, _+_, _≤_, _<_}
-use mathlib.Core.Path.{_≡_, refl, sym, ap, subst, _∙_}
-use mathlib.Core.List.{List, [], _∷_, _++_, map, List·Memᴰ, List·Memᴰ·head, List·Memᴰ·tail}
-use mathlib.Core.Bool.{Bool, true, false, cond, not, _&&_, _||_, false≢true}
-use mathlib.Core.Option.{Option, none, some}
+use Prim.Native.Nat.{ℕ, suc, _+_, _≤_, _<_}
+use mathlib.Core.Path.{_≡_, refl, sym, ap, _∙_}
+use mathlib.Core.List.{List, [], _∷_, map, List·Memᴰ, List·Memᴰ·head, List·Memᴰ·tail}
+use mathlib.Core.Bool.{Bool, true, false, cond, _||_, false≢true}
 use native.Mathlib.Omega.{arith}
 use borrow.Author.Tests.{ltb-true, ltb-false, eqb-true, eqb-false, eq-eqb, ne-eqb, lt-ltb, le-ltb}
 use lib.Dec.{eqb, ltb}
 use lib.ListN.{length}
-use Rattle.lists.specs.Lists.{consIf, keep, any, find, changeIf, Every, at, has, get, without, change, include, includeAll, Above, Ascending, aboveAll, ascending}
-use Rattle.lists.proofs.Tests.{or-false, or-assoc, and-left, and-right}
-use Rattle.lists.proofs.Keep.{keep-same, every-more}
+use Rattle.lists.specs.Lists.{consIf, keep, any, changeIf, Every, at, has, include, includeAll, Above, Ascending, aboveAll, ascending}
+use Rattle.lists.proofs.Tests.{or-assoc, and-left, and-right}
+use Rattle.lists.proofs.Keep.{every-more}
 
 -- two numbers: the lower first, equal, or the higher first
 pub by-order : {P : Type 0} (m n : ℕ) → (m < n → P) → (m ≡ n → P) → (n < m → P) → P
@@ -251,21 +250,6 @@ module _ {A : Type 0} (key : A → ℕ) where
       past gt true true = sym (include-past e x (keep p l) gt)
       past gt true false = refl
       past gt false c = refl
-
-  -- of rising keys a test keeps those whose key is among the kept
-  pub keep-by-key : (p : A → Bool) (l : List A) → Ascending key l → keep (λ x. has key (key x) (keep p l)) l ≡ keep p l
-  keep-by-key p [] s = refl
-  keep-by-key p (x ∷ l) s = go (p x) (keep-by-key p l (s .1))
-    where
-      later : (y : A) → List·Memᴰ y l → has key (key y) (x ∷ keep p l) ≡ has key (key y) (keep p l)
-      later y m = rw (ne-eqb (key x) (key y) (omega (arith, above-member key (key x) l (s .0) m)))
-
-      go : (b : Bool) → keep (λ y. has key (key y) (keep p l)) l ≡ keep p l →
-          keep (λ y. has key (key y) (consIf b x (keep p l))) (x ∷ l) ≡ consIf b x (keep p l)
-      go true ih =
-          rw (eq-eqb (key x) (key x) refl)
-          (ap (λ m. x ∷ m) (keep-same _ (λ y. has key (key y) (keep p l)) l later ∙ ih))
-      go false ih = rw (above-lacks key (key x) (key x) (keep p l) (omega arith) (above-keep key p (key x) l (s .0))) ih
 
   -- Where a key tells the elements apart.
   module _ (P : A → Type 0) (apart : (x y : A) → P x → P y → key x ≡ key y → x ≡ y) where

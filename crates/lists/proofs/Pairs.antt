@@ -1,14 +1,13 @@
 -- Two arrays side by side, and an array read through a function: what is done to the arrays at a place is
 -- done to the list they are read as. By walking down the lists.
 -- Assumes nothing.
-use Prim.Native.Nat.{ℕ, zero, suc, _+_, _≤_, _<_}
+use Prim.Native.Nat.{ℕ, zero, suc, _≤_, _<_}
 use mathlib.Core.Path.{_≡_, refl, sym, ap, _∙_}
-use mathlib.Core.Bool.{Bool, true, false}
+use mathlib.Core.Bool.{Bool}
 use mathlib.Core.List.{List, [], _∷_, map}
-use native.Mathlib.Numerals.{add-one}
 use native.Mathlib.Omega.{arith}
-use lib.ListN.{length, take, drop, getD, set, drop-of-length-le, length-map, List·getD-map}
-use lib.Seq.{drop-cons, take-suc-set, drop-set-lt, take-set-lt, length-take-le, getD-take, append-snoc}
+use lib.ListN.{length, take, getD, set, length-map, List·getD-map}
+use lib.Seq.{take-set-lt, length-take-le, getD-take}
 use Rattle.lists.specs.Lists.{Every, zipBy, at, change, Ascending}
 use Rattle.lists.specs.declared.Found.the-variants.{At}
 use Rattle.lists.specs.Arrays.{place, rank}

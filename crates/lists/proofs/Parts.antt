@@ -1,14 +1,14 @@
 -- Parts of a list of words: what holds of each element of the whole holds of each of a part, and how long parts are.
 -- Assumes nothing.
-use Prim.Native.Nat.{ℕ, zero, suc, _+_, _≤_, _<_}
-use mathlib.Core.Path.{_≡_, refl, sym, ap, _∙_}
-use mathlib.Core.List.{List, [], _∷_, _++_}
-use mathlib.Core.Bool.{Bool, true, false}
+use Prim.Native.Nat.{ℕ, zero, suc, _≤_}
+use mathlib.Core.Path.{_≡_}
+use mathlib.Core.List.{List, [], _∷_}
+use mathlib.Core.Bool.{true}
 use native.Mathlib.Omega.{arith}
 use lib.Dec.{leb}
 use lib.ListN.{length, getD, take, drop, length-take}
 use borrow.Author.Tests.{leb-true}
-use Rattle.lists.specs.Lists.{Every, all, zipBy, part, cut}
+use Rattle.lists.specs.Lists.{Every, zipBy, part, cut}
 
 module _ {A : Type 0} where
   pub every-take : (P : A → Type 0) (n : ℕ) (l : List A) → Every P l → Every P (take n l)

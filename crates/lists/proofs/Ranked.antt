@@ -1,15 +1,15 @@
--- A search by halves in a list in rising order of a key: what a probe tells of the rank, and what stands at the rank.
+-- A search in a list in rising order of a key: what a probe tells of the rank, and what stands at the rank.
 -- Assumes nothing.
 use Prim.Native.Nat.{ℕ, zero, suc, _<_, _≤_}
-use mathlib.Core.Path.{_≡_, refl, sym, _∙_}
+use mathlib.Core.Path.{_≡_, refl}
 use mathlib.Core.List.{List, [], _∷_}
-use mathlib.Core.Bool.{Bool, true, false, cond, _||_, true≢false}
+use mathlib.Core.Bool.{Bool, true, false, cond}
 use native.Mathlib.Omega.{arith}
 use borrow.Author.Tests.{ltb-true, lt-ltb, le-ltb, eq-eqb, ne-eqb}
-use lib.Dec.{eqb, ltb}
-use lib.ListN.{length, getD}
+use lib.Dec.{ltb}
+use lib.ListN.{length, drop, getD}
 use Rattle.lists.specs.Lists.{has, Above, Ascending}
-use Rattle.lists.specs.Arrays.{rank}
+use Rattle.lists.specs.Arrays.{rank, leads}
 use Rattle.lists.proofs.Order.{above-lacks, by-order}
 
 module _ {A : Type 0} (key : A → ℕ) where
@@ -18,14 +18,15 @@ module _ {A : Type 0} (key : A → ℕ) where
   above-at k d (x ∷ l) zero a h = a .0
   above-at k d (x ∷ l) (suc i) a h = above-at k d l i (a .1) (omega arith)
 
-  pub has-at : (t : ℕ) (d : A) (l : List A) (i : ℕ) → i < length l → eqb (key (getD l i d)) t ≡ true → has key t l ≡ true
-  has-at t d [] i h u = absurd (omega arith)
-  has-at t d (x ∷ l) zero h u = rw u
-  has-at t d (x ∷ l) (suc i) h u = rw (has-at t d l i (omega arith) u) (either (eqb (key x) t))
-    where
-      either : (b : Bool) → b || true ≡ true
-      either true = refl
-      either false = refl
+  -- what stands in a rising list stands at its rank
+  pub at-rank : (t : ℕ) (l : List A) → Ascending key l → has key t l ≡ leads key t (drop (rank (λ x. ltb (key x) t) l) l)
+  unfolding rank
+  at-rank t [] a = refl
+  at-rank t (x ∷ l) a =
+      by-order (key x) t
+      (λ lt. rw (lt-ltb (key x) t lt, ne-eqb (key x) t (omega arith)) (at-rank t l (a .1)))
+      (λ eq. rw (le-ltb (key x) t (omega arith), eq-eqb (key x) t eq))
+      (λ gt. rw (le-ltb (key x) t (omega arith), ne-eqb (key x) t (omega arith)) (above-lacks key t (key x) l (omega arith) (a .0)))
 
   module _ (t : ℕ) (d : A) where
     abbrev pub under : A → Bool
@@ -46,13 +47,3 @@ module _ {A : Type 0} (key : A → ℕ) where
     rank-least (x ∷ l) (suc i) a h u =
         let first = lt-ltb (key x) t (omega (arith, above-at (key x) d l i (a .0) (omega arith), ltb-true (key (getD l i d)) t u)) in
         rw first (omega (arith, rank-least l i (a .1) (omega arith) u))
-
-    -- a key that does not stand at its rank stands nowhere
-    pub ranked-lacks : (l : List A) → Ascending key l → (rank under l < length l → eqb (key (getD l (rank under l) d)) t ≡ false) → has key t l ≡ false
-    unfolding rank
-    ranked-lacks [] a f = refl
-    ranked-lacks (x ∷ l) a f =
-        by-order (key x) t
-        (λ lt. rw (ne-eqb (key x) t (omega arith)) (ranked-lacks l (a .1) (λ h. (rw (lt-ltb (key x) t lt) at f) (omega arith))))
-        (λ eq. absurd (true≢false (sym (eq-eqb (key x) t eq) ∙ (rw (le-ltb (key x) t (omega arith)) at f) (omega arith))))
-        (λ gt. rw (ne-eqb (key x) t (omega arith)) (above-lacks key t (key x) l (omega arith) (a .0)))

@@ -1,8 +1,7 @@
 -- Boolean tests: what a joined test says of its parts, and back.
 -- Assumes nothing.
-use Prim.Native.Nat.{ℕ}
-use mathlib.Core.Path.{_≡_, refl, sym, ap, _∙_}
-use mathlib.Core.Bool.{Bool, true, false, cond, not, _&&_, _||_, false≢true, true≢false}
+use mathlib.Core.Path.{_≡_, refl, sym}
+use mathlib.Core.Bool.{Bool, true, false, cond, _&&_, _||_, false≢true}
 
 pub or-left : (a b : Bool) → a ≡ true → a || b ≡ true
 or-left a b h = rw h

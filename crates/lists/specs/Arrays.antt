@@ -1,9 +1,10 @@
 -- Lists kept in the front of an array: where something stands, and what putting in and taking out at a place does.
-use Prim.Native.Nat.{ℕ, zero, suc, _≤_}
+use Prim.Native.Nat.{ℕ, suc}
 use mathlib.Core.Path.{_≡_}
-use mathlib.Core.Bool.{Bool, true, false, cond}
+use mathlib.Core.Bool.{Bool, false, cond}
 use mathlib.Core.List.{List, [], _∷_, _++_}
-use lib.ListN.{take, drop, getD}
+use lib.Dec.{eqb}
+use lib.ListN.{take, drop}
 use Rattle.lists.specs.declared.Found.{Found}
 use Rattle.lists.specs.declared.Found.the-variants.{At, Nothing}
 use Rattle.lists.specs.Lists.{has, self}
@@ -24,6 +25,11 @@ module _ {A : Type 0} where
   unfoldable pub rank : (A → Bool) → List A → ℕ
   rank p [] = 0
   rank p (x ∷ l) = cond (p x) (suc (rank p l)) 0
+
+-- whether the first element has this key
+abbrev pub leads : {A : Type 0} → (A → ℕ) → ℕ → List A → Bool
+leads key t [] = false
+leads key t (x ∷ l) = eqb (key x) t
 
 -- no number stands twice
 abbrev pub Distinct : List ℕ → Type 0

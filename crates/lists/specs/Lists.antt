@@ -1,8 +1,8 @@
 -- The words in which the rules speak of lists: keeping, finding, changing and putting in by key, for any type of element.
 -- A test is a function to Bool; a key is a function to ℕ, by which lists are kept in rising order.
-use Prim.Native.Nat.{ℕ, zero, suc, _+_, _<_}
+use Prim.Native.Nat.{ℕ, _+_, _<_}
 use mathlib.Core.Bool.{Bool, true, false, cond, not, _&&_, _||_}
-use mathlib.Core.List.{List, [], _∷_, _++_, map}
+use mathlib.Core.List.{List, [], _∷_, _++_}
 use mathlib.Core.Option.{Option, none, some}
 use lib.Dec.{eqb, ltb}
 use lib.ListN.{take, drop}

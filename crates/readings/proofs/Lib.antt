@@ -1,6 +1,2 @@
-pub mod Gather
-pub mod OnFile
-pub mod Crossing
-pub mod Listed
 pub mod Looked
-pub mod ByEntry
+pub mod Written

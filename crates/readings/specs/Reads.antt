@@ -1,7 +1,7 @@
 -- The one shape of contract for the readings: a reading answers and writes what an outcome says. It hands no ledger back.
 use Prim.Native.Nat.{ℕ}
 use mathlib.Core.Path.{_≡_}
-use mathlib.Core.List.{List, [], _∷_}
+use mathlib.Core.List.{List}
 use lib.ListN.{getD}
 use Rattle.rules.specs.Outcome.{Outcome}
 use Rattle.ledger.specs.Meets.{written}

@@ -1,9 +1,7 @@
-// Everything that is read off a ledger: lists written into a lent list, and lookups. None changes the ledger, which is handed in by value and
-// stays the caller's.
-pub mod entries;
+// What every reading of a ledger says and how it says it, and the lookups. None changes the ledger, which is handed in by value and stays
+// the caller's. The readings that are lent a list stand in `entry_lists` and `shard_lists`.
 pub mod lookups;
-pub mod set;
-pub mod shards;
+pub mod telling;
 
 // What a reading says: 0 or its refusal, and its answer (0 where it was refused).
 pub struct Told {

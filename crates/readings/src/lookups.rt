@@ -4,15 +4,16 @@ ghost use mathlib.Core.Bool.{true, not, _&&_};
 ghost use mathlib.Core.List.{[]};
 ghost use lib.Dec.{eqb, ltb, leb};
 ghost use Prim.Native.Nat.{_+_, _<_, _^_};
-ghost use Rattle.lists.specs.Lists.{filled};
-ghost use Rattle.rules.specs.Numbers.{isTime, isShard};
-ghost use Rattle.rules.specs.Plain.{isCore, remote};
+ghost use Rattle.rules.specs.Numbers.{isTime};
+ghost use Rattle.rules.specs.Plain.{isCore};
 ghost use Rattle.rules.specs.Readings.{read, openAt, answers, abandonment, covered, departed, executed, reachesBeyond, issuedBy, local, rebuilt, question, questionRefusal};
-ghost use Rattle.entry.specs.Entry.{plainEntry, plainPart, Fits};
+ghost use Rattle.entry.specs.Entry.{plainPart};
 ghost use Rattle.ledger.specs.Contents.{contents, Held};
 ghost use Rattle.readings.specs.Reads.{Reads};
-ghost use Rattle.readings.specs.Answers.{Tells, Says, Refuses};
 use crate::Told;
+use crate::telling::refusal;
+use crate::telling::said;
+use crate::telling::told;
 use entry::Entry;
 use entry::Part;
 use ledger::Ledger;
@@ -21,30 +22,6 @@ use types::RecordKey;
 use types::Shard;
 use types::Time;
 use types::Transaction;
-
-pub fn told(n: u64) -> Told
-    ensures { λ r. ⌜ Tells n r ⌝ }
-{
-    Told {
-        refused: 0,
-        answer: n,
-    }
-}
-
-pub fn said(yes: bool) -> Told
-    ensures { λ r. ⌜ Says yes r ⌝ }
-{
-    if yes { told(1) } else { told(0) }
-}
-
-pub fn refusal(n: u64) -> Told
-    ensures { λ r. ⌜ Refuses n r ⌝ }
-{
-    Told {
-        refused: n,
-        answer: 0,
-    }
-}
 
 // A core without a certificate by execution, which no record names.
 fn is_abandonable(part: Part, certified: u8, naming: Shard) -> bool
@@ -57,22 +34,6 @@ fn is_abandonable(part: Part, certified: u8, naming: Shard) -> bool
         return false;
     }
     naming.0 == 0
-}
-
-// Whether local does not own some route of the entry.
-fn is_beyond(e: Entry, local: Shard) -> bool
-    requires { ⌜ Fits e × (isShard (local .0) ≡ true) ⌝ }
-    ensures { λ r. ⌜ r ≡ filled (remote (local .0) (plainEntry e .terms)) ⌝ }
-{
-    let n = e.routes_len as usize;
-    let mut i: usize = 0;
-    while i < n {
-        if !local.owns(e.routes[i]) {
-            return true;
-        }
-        i += 1;
-    }
-    false
 }
 
 // Whether the entry may be abandoned.
@@ -141,7 +102,7 @@ pub fn reaches_beyond(ledger: Ledger, tx: Transaction) -> Told
     };
     let slot = roster.slots[k];
     let e = ledger.entries[slot];
-    said(is_beyond(e, ledger.local))
+    said(e.reaches_beyond(ledger.local))
 }
 
 // Whether the index names the transaction under the record.

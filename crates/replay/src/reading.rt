@@ -8,9 +8,8 @@ use crate::turns::fill;
 use crate::turns::turns_of;
 use ledger::Ledger;
 use readings::Told;
-use readings::entries;
 use readings::lookups;
-use readings::shards;
+use readings::telling;
 use script::Parsed;
 use script::calls as codes;
 use types::RecordKey;
@@ -49,13 +48,13 @@ fn read(ledger: Ledger, code: u8, numbers: &[u64; 2048], lent: &mut [u64]) -> To
     let tx = Transaction(w);
     let w1 = numbers[1];
     match code {
-        codes::QUESTIONS => entries::questions(ledger, lent),
-        codes::PAST_DEADLINE => entries::past_deadline(ledger, Time(w), lent),
-        codes::ISSUERS_OF => entries::issuers_of(ledger, w, lent),
-        codes::CLAIMANTS => shards::claimants(ledger, tx, RecordKey(w1), lent),
-        codes::COUNTERPARTS => shards::counterparts(ledger, tx, w1, lent),
-        codes::UNSTAMPED_DEPARTURES => shards::unstamped_departures(ledger, lent),
-        codes::REACH => shards::reach(ledger, tx, lent),
+        codes::QUESTIONS => entry_lists::questions(ledger, lent),
+        codes::PAST_DEADLINE => entry_lists::past_deadline(ledger, Time(w), lent),
+        codes::ISSUERS_OF => entry_lists::issuers_of(ledger, w, lent),
+        codes::CLAIMANTS => shard_lists::claimants(ledger, tx, RecordKey(w1), lent),
+        codes::COUNTERPARTS => shard_lists::counterparts(ledger, tx, w1, lent),
+        codes::UNSTAMPED_DEPARTURES => shard_lists::unstamped_departures(ledger, lent),
+        codes::REACH => shard_lists::reach(ledger, tx, lent),
         _ => look_up(ledger, code, numbers),
     }
 }
@@ -75,8 +74,8 @@ fn look_up(ledger: Ledger, code: u8, numbers: &[u64; 2048]) -> Told
         codes::ISSUED_BY => lookups::issued_by(ledger, RecordKey(w), Transaction(numbers[1])),
         codes::LOCAL => lookups::local(ledger),
         codes::REBUILT => lookups::rebuilt(ledger),
-        codes::DUMP => lookups::told(0),
-        _ => lookups::refusal(NO_CALL),
+        codes::DUMP => telling::told(0),
+        _ => telling::refusal(NO_CALL),
     }
 }
 

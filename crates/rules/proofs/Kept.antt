@@ -1,27 +1,27 @@
 -- Every changing call keeps what every reachable ledger has; a making hands back a ledger that has it.
 -- Assumes nothing.
-use Prim.Native.Nat.{ℕ, zero, suc, _+_, _-_, _*_, _^_, _≤_, _<_, min}
-use mathlib.Core.Path.{_≡_, refl, sym, ap, _∙_}
-use mathlib.Core.Bool.{Bool, true, false, cond, not, _&&_, _||_, false≢true, true≢false}
-use mathlib.Core.List.{List, [], _∷_, _++_, map}
+use Prim.Native.Nat.{ℕ, zero, suc, _+_, _-_, _≤_}
+use mathlib.Core.Path.{_≡_, refl, ap, _∙_}
+use mathlib.Core.Bool.{Bool, true, false, cond, not, _&&_, _||_, false≢true}
+use mathlib.Core.List.{List, [], _∷_, map}
 use mathlib.Core.Option.{Option, none, some}
 use native.Mathlib.Omega.{arith}
 use lib.Dec.{eqb, ltb, leb}
 use lib.ListN.{length}
-use borrow.Author.Tests.{leb-true, leb-false, ltb-false, ltb-true, not-false, not-true}
-use Rattle.lists.specs.Lists.{consIf, keep, allOf, filled, Every, Ascending, at, has, get, without, change, include, self, setOf}
+use borrow.Author.Tests.{leb-false, ltb-false}
+use Rattle.lists.specs.Lists.{consIf, keep, allOf, filled, Every, Ascending, at, has, get, change, include, self, setOf}
 use Rattle.lists.proofs.Tests.{and-left, and-right, by-cond, cond-same, cond-both}
 use Rattle.lists.proofs.Keep.{length-keep, length-changeIf, every-keep, every-changeIf, keep-same, each-of}
 use Rattle.lists.proofs.Order.{ascending-keep, ascending-changeIf, ascending-include, ascending-includeAll, every-include, length-include, length-include-new, include-known}
 use Rattle.lists.proofs.Change.{every-change, has-change, has-include, new-include-known, new-include}
 use Rattle.rules.specs.Numbers.{isWord, isTime, isShard, isSpan, maxEntries, maxAbsences, maxDepartures, maxCount}
 use Rattle.rules.specs.Plain.{Part, whole, leg, core, remainder, Terms, Absence, Entry, Departure, Plain, isCore, isSettling, transactionOf, absenceKey, shardOf, empty, withEntries, withDepartures, withRebuilt, owed, entryOf, issues, owes}
-use Rattle.rules.specs.Words.{decomposed, admissionTerms, admissionFormed, admissionTimed, admissionPlaced, recordShard, recordGroups, recordFormed, recordTimed, finalizationLines, deciding, Line, finalizationFormed}
-use Rattle.rules.specs.Entries.{entry, admitted, rebuilt, withPart, withCertificate, withNaming, withAbsences, withMarks, isRead, readAbsent, certified, marked, isClosed, withGroup, withGroups, rebuiltBy, Ruling, skip, turn, release, rulingOn, ruling, ruled, withLines}
+use Rattle.rules.specs.Words.{decomposed, admissionTerms, admissionFormed, admissionTimed, admissionPlaced, recordShard, recordGroups, recordFormed, recordTimed, finalizationLines, deciding, Line}
+use Rattle.rules.specs.Entries.{admitted, rebuilt, withPart, withCertificate, withNaming, withMarks, isRead, readAbsent, certified, marked, isClosed, withGroup, withGroups, rebuiltBy, Ruling, skip, turn, release, ruling, ruled, withLines}
 use Rattle.rules.specs.Prune.{survivors, pruned, stands, remains}
-use Rattle.rules.specs.Outcome.{Outcome, done, unless, _gives_then_, yesNo}
+use Rattle.rules.specs.Outcome.{Outcome, unless, _gives_then_}
 use Rattle.rules.specs.Calls.{Call, admission, absence, certify, abandonment, settled, returned, closes, fated, finalization, forget, terminal, stamp, prune, step, run, making, makingRefusal, unowed, noRoomFor, admissionRefusal, afterAdmission, isNew, isFull, absenceRefusal, afterAbsence, certifyRefusal, afterCertify, abandonmentRefusal, afterAbandonment, afterMark, closesRefusal, afterCloses, isFated, afterFated, finalizationRefusal, afterFinalization, afterForget, firstStamp, stamped, departed, terminalRefusal, afterTerminal, stampRefusal, afterStamp, pruneRefusal, afterPrune}
-use Rattle.rules.specs.Good.{Holds, GoodTerms, GoodAbsence, Unmarked, Marked, GoodPart, isNaming, GoodEntry, GoodStamp, GoodDeparture, Good, OfWords}
+use Rattle.rules.specs.Good.{Holds, GoodAbsence, Marked, GoodPart, isNaming, GoodEntry, GoodStamp, GoodDeparture, Good, OfWords}
 use Rattle.rules.proofs.Taken.{admitted-good, GoodGroup, groups-good, rebuilt-good}
 
 -- The refusal table.

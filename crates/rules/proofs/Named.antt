@@ -9,12 +9,12 @@ use native.Mathlib.Omega.{arith}
 use lib.Dec.{eqb}
 use lib.ListN.{length, length-map}
 use borrow.Author.Tests.{ltb-true}
-use Rattle.lists.specs.Lists.{any, at, Every, Ascending}
-use Rattle.lists.proofs.Tests.{and-left, and-swap}
-use Rattle.lists.proofs.Keep.{any-map, any-and, any-more, every-always, every-map, every-more, length-keep}
+use Rattle.lists.specs.Lists.{any, Every, Ascending}
+use Rattle.lists.proofs.Tests.{and-swap}
+use Rattle.lists.proofs.Keep.{any-map, any-and, every-always, every-map, every-more, length-keep}
 use Rattle.lists.proofs.Order.{ascending-includeAll, every-includeAll, length-includeAll, any-includeAll}
 use Rattle.rules.specs.Numbers.{isWord, maxEdges, maxPairs}
-use Rattle.rules.specs.Plain.{Entry, Plain, transactionOf, issued, issues, owed}
+use Rattle.rules.specs.Plain.{Entry, Plain, transactionOf, issued, issues}
 use Rattle.rules.specs.Index.{Pair, pairKey, pairsOf, indexOf, index, names, listsRecord}
 use Rattle.rules.specs.Good.{Good, GoodEntry}
 

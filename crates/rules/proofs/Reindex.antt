@@ -8,9 +8,9 @@ use lib.Dec.{eqb}
 use native.Mathlib.Omega.{arith}
 use borrow.Author.Tests.{lt-ltb, eq-eqb, ne-eqb}
 use Rattle.lists.proofs.Tests.{or-left}
-use Rattle.lists.specs.Lists.{consIf, keep, has, without, changeIf, include, includeAll, Every, Ascending}
+use Rattle.lists.specs.Lists.{consIf, keep, has, without, changeIf, include, includeAll, Every}
 use Rattle.lists.proofs.Keep.{keep-always, keep-never}
-use Rattle.lists.proofs.Order.{by-order, include-past, keep-includeAll, includeAll-swap, keep-by-key}
+use Rattle.lists.proofs.Order.{by-order, include-past, keep-includeAll, includeAll-swap}
 use Rattle.rules.specs.Plain.{Entry, transactionOf}
 use Rattle.rules.specs.Index.{pairKey, pairsOf, indexOf}
 use Rattle.rules.proofs.Named.{IsOfWord, IsPairOfWord, same-pair, pairsOf-every, pairsOf-words, indexOf-words, indexOf-rises}

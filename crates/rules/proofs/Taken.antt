@@ -1,23 +1,23 @@
 -- What words that the table lets pass give: entries that are good, of an admission and of an abandonment record.
 -- Assumes nothing.
-use Prim.Native.Nat.{ℕ, zero, suc, _+_, _*_, _^_, _≤_, _<_}
-use mathlib.Core.Path.{_≡_, refl, sym, ap, _∙_}
-use mathlib.Core.Bool.{Bool, true, false, cond, not, _&&_, _||_}
-use mathlib.Core.List.{List, [], _∷_, _++_}
+use Prim.Native.Nat.{ℕ, _+_, _≤_}
+use mathlib.Core.Path.{_≡_, refl}
+use mathlib.Core.Bool.{Bool, true, false, cond}
+use mathlib.Core.List.{List, [], _∷_}
 use native.Mathlib.Omega.{arith}
-use lib.Dec.{eqb, ltb, leb}
-use lib.ListN.{length, getD, take, drop}
+use lib.Dec.{eqb, leb}
+use lib.ListN.{length, drop}
 use borrow.Author.Tests.{leb-true}
-use Rattle.lists.specs.Lists.{all, Every, Ascending, has, ascending, total, zipBy, self, part, cut}
+use Rattle.lists.specs.Lists.{all, Every, Ascending, has, ascending, zipBy, self, part, cut}
 use Rattle.lists.proofs.Tests.{by-cond}
 use Rattle.lists.proofs.Keep.{every-all, each-of}
 use Rattle.lists.proofs.Order.{ascending-test}
-use Rattle.lists.proofs.Parts.{every-take, every-drop, every-getD, every-part, length-part, every-zipBy, length-zipBy, every-cut, every-both}
-use Rattle.rules.specs.Numbers.{isWord, isTime, isShard, maxRoutes, maxDestinations}
-use Rattle.rules.specs.Plain.{Part, whole, leg, core, remainder, Edge, Terms, Entry}
-use Rattle.rules.specs.Words.{word, transactionAt, transactionSize, edge, with, routeCount, coreCount, edgeCount, figuresAt, decomposed, routesAt, coreAt, edgesAt, destinationsAt, coreIn, froms, kinds, sizes, destinations, edgesIn, admissionTerms, admissionTests, admissionFormed, admissionTimed, admissionPlaced, groupCount, recordShard, reachSizes, groupsAt, reachesAt, groupTerms, groupsFrom, recordGroups, recordTests, recordFormed, recordTimed, timed}
+use Rattle.lists.proofs.Parts.{every-drop, every-getD, every-part, length-part, every-zipBy, length-zipBy, every-cut, every-both}
+use Rattle.rules.specs.Numbers.{isWord, isTime, isShard}
+use Rattle.rules.specs.Plain.{Part, whole, leg, core, Edge, Terms}
+use Rattle.rules.specs.Words.{word, transactionSize, edge, with, routeCount, coreCount, edgeCount, figuresAt, decomposed, routesAt, coreAt, edgesAt, destinationsAt, coreIn, froms, kinds, sizes, destinations, edgesIn, admissionTerms, admissionTests, admissionFormed, admissionTimed, admissionPlaced, reachSizes, groupsAt, reachesAt, groupTerms, groupsFrom, recordGroups, recordTests, recordFormed, recordTimed, timed}
 use Rattle.rules.specs.Entries.{entry, wholeTerms, admitted, rebuilt}
-use Rattle.rules.specs.Good.{Holds, Within, GoodEdge, GoodTerms, Unmarked, Marked, GoodPart, isNaming, GoodEntry}
+use Rattle.rules.specs.Good.{Holds, GoodEdge, GoodTerms, Unmarked, GoodPart, isNaming, GoodEntry}
 
 words-at : (i : ℕ) (ws : List ℕ) → Every (Holds isWord) ws → isWord (word i ws) ≡ true
 words-at i ws v = every-getD (Holds isWord) 0 i ws refl v

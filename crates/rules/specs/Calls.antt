@@ -1,6 +1,6 @@
 -- The changing calls: making, the ten kinds of call on entries, terminal, stamp and prune. For each its line of the refusal
 -- table, from the top, and what it does where nothing is refused. A list that is lent is known by its length alone.
-use Prim.Native.Nat.{ℕ, zero, suc, _+_, _-_, _*_, min}
+use Prim.Native.Nat.{ℕ, _+_, _-_, min}
 use mathlib.Core.Bool.{Bool, true, false, cond, not, _&&_, _||_}
 use mathlib.Core.List.{List, [], _∷_, _++_, map}
 use mathlib.Core.Option.{Option, none, some}

@@ -1,11 +1,11 @@
 -- Paper, 'Entries, parts, index': how an entry comes to be and what each kind of call changes of it.
-use Prim.Native.Nat.{ℕ, zero, suc, _+_}
-use mathlib.Core.Bool.{Bool, true, false, cond, not, _&&_, _||_}
+use Prim.Native.Nat.{ℕ, _+_}
+use mathlib.Core.Bool.{Bool, false, cond, not, _&&_, _||_}
 use mathlib.Core.List.{List, [], _∷_}
 use mathlib.Core.Option.{Option, none, some}
 use lib.Dec.{eqb, ltb}
 use Rattle.lists.specs.Lists.{all, filled, has, get, include, without, change, self}
-use Rattle.rules.specs.Plain.{Part, whole, leg, core, remainder, Terms, Absence, Entry, isCore, isLeg, isSettling, transactionOf, absenceKey, issued, issues, owes}
+use Rattle.rules.specs.Plain.{Part, whole, leg, core, remainder, Terms, Absence, Entry, isCore, isSettling, transactionOf, absenceKey, issued, issues, owes}
 use Rattle.rules.specs.Words.{decomposed, coreIn, admissionTerms, Line}
 
 abbrev pub entry : Part → Terms → ℕ → ℕ → Entry

@@ -3,7 +3,6 @@
 use Prim.Native.Nat.{ℕ, _+_, _-_, _^_}
 use Prim.Native.String.{String}
 use mathlib.Core.Path.{_≡_, refl}
-use mathlib.Core.Bool.{Bool, true, false}
 use mathlib.Core.List.{List, [], _∷_, _++_, map}
 use Rattle.lists.specs.Lists.{concatMap}
 use Rattle.rules.specs.Numbers.{depth, owns}
@@ -13,7 +12,7 @@ use Rattle.rules.specs.Index.{index}
 use Rattle.rules.specs.Prune.{ruleOf, survivors, fallen, reports, pruned}
 use Rattle.rules.specs.Entries.{admitted}
 use Rattle.rules.specs.Outcome.{Outcome, yesNo}
-use Rattle.rules.specs.Calls.{Call, admission, absence, certify, abandonment, settled, returned, closes, fated, finalization, forget, terminal, stamp, prune, step, run, making, afterAdmission, afterAbsence, afterCertify, afterAbandonment, afterMark, afterCloses, afterFated, afterFinalization, afterForget, afterTerminal, afterStamp, afterPrune}
+use Rattle.rules.specs.Calls.{Call, admission, absence, certify, abandonment, settled, returned, closes, finalization, terminal, stamp, prune, step, run, making, afterAdmission, afterAbsence, afterCertify, afterAbandonment, afterMark, afterCloses, afterFated, afterFinalization, afterForget, afterTerminal, afterStamp, afterPrune}
 use Rattle.rules.specs.Readings.{Reading, askQuestions, listPastDeadline, listIssuers, executed, read, questions, pastDeadline, issuersOf, claimants, counterparts, unstampedDepartures}
 
 -- a row: what is asked, what the rules give, what the paper says

@@ -1,6 +1,6 @@
 -- Paper, 'Kept, left, written anew': the stand-ins. Words, times, shards, spans; ownership of a route; record and cell keys.
 use Prim.Native.Nat.{ℕ, zero, suc, _+_, _-_, _/_, _%_, _^_}
-use mathlib.Core.Bool.{Bool, true, false, cond, _&&_}
+use mathlib.Core.Bool.{Bool, cond, _&&_}
 use lib.Dec.{eqb, ltb, leb}
 
 -- a word is an unsigned 64-bit number

@@ -1,10 +1,9 @@
 -- What a call answers and does: its refusal, its answers, the ledger after it, the words that it writes.
-use Prim.Native.Nat.{ℕ, zero, suc, _+_, _*_}
+use Prim.Native.Nat.{ℕ, zero, suc}
 use mathlib.Core.Bool.{Bool, true, false, cond}
-use mathlib.Core.List.{List, [], _∷_, _++_}
+use mathlib.Core.List.{List, []}
 use lib.Dec.{ltb}
 use lib.ListN.{length}
-use Rattle.lists.specs.Lists.{concatMap}
 use Rattle.rules.specs.Plain.{Plain}
 
 -- refused: 0 for none

@@ -1,8 +1,8 @@
 -- Paper, 'What demand 3 compares': the plain ledger and what it holds of each entry and each departure.
-use Prim.Native.Nat.{ℕ, zero, suc, _+_, _*_, _^_}
-use mathlib.Core.Bool.{Bool, true, false, not, _&&_, _||_}
-use mathlib.Core.List.{List, [], _∷_, map}
-use mathlib.Core.Option.{Option, none, some}
+use Prim.Native.Nat.{ℕ, _+_, _*_, _^_}
+use mathlib.Core.Bool.{Bool, true, false, not, _||_}
+use mathlib.Core.List.{List, [], map}
+use mathlib.Core.Option.{Option}
 use lib.Dec.{eqb, ltb}
 use Rattle.lists.specs.Lists.{keep, any, filled, has, get, self}
 use Rattle.rules.specs.Numbers.{recordKey, owns}
@@ -10,12 +10,6 @@ use Rattle.rules.specs.Numbers.{recordKey, owns}
 -- part: 0 whole, 1 leg, 2 core, 3 remainder
 pub data Part : Type 0 where
   whole leg core remainder : Part
-
-abbrev pub partCode : Part → ℕ
-partCode whole = 0
-partCode leg = 1
-partCode core = 2
-partCode remainder = 3
 
 abbrev pub isCore : Part → Bool
 isCore core = true

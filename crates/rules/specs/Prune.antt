@@ -1,14 +1,14 @@
 -- Paper, 'Departures, then prune': the five rules, one prune, and prunes at a list of clocks.
-use Prim.Native.Nat.{ℕ, zero, suc, _+_, _≤_}
+use Prim.Native.Nat.{ℕ, _+_, _≤_}
 use mathlib.Core.Path.{_≡_}
 use mathlib.Core.Bool.{Bool, true, false, cond, not, _&&_, _||_}
 use mathlib.Core.List.{List, [], _∷_, _++_, map}
 use mathlib.Core.Option.{Option, none, some}
 use lib.Dec.{ltb, leb, eqb}
 use lib.ListN.{length}
-use Rattle.lists.specs.Lists.{keep, any, filled, concatMap}
+use Rattle.lists.specs.Lists.{keep, any, filled}
 use Rattle.rules.specs.Numbers.{owns}
-use Rattle.rules.specs.Plain.{Part, Terms, Entry, Departure, Plain, isCore, isSettling, isNamed, remote, transactionOf, withEntries, withDepartures}
+use Rattle.rules.specs.Plain.{Entry, Departure, Plain, isCore, isSettling, isNamed, remote, transactionOf, withEntries, withDepartures}
 use Rattle.rules.specs.Words.{transactionWords}
 
 -- the first stamp holds: readable unstamped, or while now ≤ until

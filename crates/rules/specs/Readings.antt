@@ -1,13 +1,13 @@
 -- Paper, 'Readings': every list and lookup, with its line of the refusal table. None changes the ledger.
-use Prim.Native.Nat.{ℕ, zero, suc, _+_}
+use Prim.Native.Nat.{ℕ, _+_}
 use mathlib.Core.Bool.{Bool, true, false, cond, not, _&&_, _||_}
 use mathlib.Core.List.{List, [], _∷_, _++_, map}
 use mathlib.Core.Option.{Option, none, some}
 use lib.Dec.{eqb, ltb, leb}
 use lib.ListN.{length}
-use Rattle.lists.specs.Lists.{keep, any, filled, has, concatMap, self, setOf}
+use Rattle.lists.specs.Lists.{keep, any, filled, concatMap, setOf}
 use Rattle.rules.specs.Numbers.{isTime, isShard, recordKey, cellKey, shardForRoute, maxDepth}
-use Rattle.rules.specs.Plain.{Edge, Entry, Departure, Plain, isCore, isSettling, transactionOf, shardOf, owed, entryOf, edgesFrom, issues, isNamed, isCovered, remote}
+use Rattle.rules.specs.Plain.{Edge, Entry, Plain, isCore, isSettling, transactionOf, shardOf, owed, entryOf, edgesFrom, isNamed, isCovered, remote}
 use Rattle.rules.specs.Words.{transactionWords}
 use Rattle.rules.specs.Index.{index, names}
 use Rattle.rules.specs.Prune.{over, validityHorizon}

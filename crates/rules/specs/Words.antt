@@ -1,8 +1,8 @@
 -- Paper, 'Words that come in': sizes first, then parallel arrays. What the words say, and what 5, 3 and 4 ask of them.
-use Prim.Native.Nat.{ℕ, zero, suc, _+_, _*_}
-use mathlib.Core.Bool.{Bool, true, false, cond, not, _&&_, _||_}
-use mathlib.Core.List.{List, [], _∷_, _++_}
-use lib.Dec.{eqb, ltb, leb}
+use Prim.Native.Nat.{ℕ, _+_, _*_}
+use mathlib.Core.Bool.{Bool, _&&_}
+use mathlib.Core.List.{List, [], _∷_}
+use lib.Dec.{eqb, leb}
 use lib.ListN.{length, getD, drop}
 use Rattle.lists.specs.Lists.{all, allOf, ascending, total, zipBy, self, part, cut}
 use Rattle.rules.specs.Numbers.{isTime, isShard, maxEntries, maxRoutes, maxCore, maxEdges, maxDestinations}

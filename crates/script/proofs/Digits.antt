@@ -6,11 +6,10 @@ use mathlib.Core.Bool.{Bool, true, false, cond}
 use mathlib.Core.List.{List, [], _∷_, _++_, append-assoc, append-nil}
 use native.Mathlib.Omega.{arith}
 use native.Mathlib.Nat.{div-lt-iff-lt-mul, pow-suc}
-use lib.Dec.{leb, ltb}
+use lib.Dec.{ltb}
 use lib.ListN.{length, drop, getD, set, drop-of-length-le}
 use lib.Seq.{drop-cons}
 use borrow.Author.Tests.{lt-leb, le-leb, le-ltb, lt-ltb, ltb-true, ltb-false}
-use Rattle.script.specs.declared.numbers.Number.{Number}
 use Rattle.script.specs.declared.numbers.Number.the-variants.{Is, Not}
 use Rattle.script.specs.Decimal.{isDigit, allDigits, worth, isWhen, valued, numberOf, spelled}
 

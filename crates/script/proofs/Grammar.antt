@@ -15,7 +15,7 @@ use Rattle.script.specs.declared.numbers.Number.the-variants.{Is, Not}
 use Rattle.script.specs.declared.parts.Tail.{Tail}
 use Rattle.script.specs.Decimal.{numberOf}
 use Rattle.script.specs.Texts.{sameText}
-use Rattle.script.specs.Grammar.{onto, tokens, wordLength, behind, noTail, lentNumber, lentOf, onward, tailOf, lentText, numberThen, numbersOf}
+use Rattle.script.specs.Grammar.{onto, tokens, wordLength, behind, noTail, lentNumber, lentOf, onward, tailOf, lentText, numbersOf}
 
 -- texts of two lengths differ
 pub apart : (a b : List ℕ) → (length a ≡ length b → ⊥) → false ≡ sameText a b

@@ -1,6 +1,6 @@
 // Numbers in base ten: a token read, and a number spelled.
 ghost use mathlib.Core.Path.{_≡_};
-ghost use Prim.Native.Nat.{_+_, _≤_, _<_};
+ghost use Prim.Native.Nat.{_+_, _<_};
 ghost use mathlib.Core.List.{[], _∷_};
 ghost use lib.ListN.{length, drop};
 ghost use Rattle.script.specs.Decimal.{numberOf, valued, spelled};

@@ -13,7 +13,7 @@ ghost use Prim.Native.Nat.{_+_, _≤_, _<_};
 ghost use mathlib.Core.Bool.{true};
 ghost use lib.ListN.{length, take, drop};
 ghost use Rattle.script.specs.Texts.{sameText};
-ghost use Rattle.script.specs.Grammar.{wordLength, behind, tailOf, numbersOf, lentText, lentOf, lentNumber, noTail};
+ghost use Rattle.script.specs.Grammar.{behind, tailOf, numbersOf, lentText, lentOf, lentNumber, noTail};
 ghost use Rattle.script.specs.Lines.{Within};
 ghost use Rattle.script.specs.Parse.{Sound, Takes};
 

@@ -7,13 +7,14 @@ use mathlib.Core.List.{List}
 use native.Mathlib.Omega.{arith}
 use borrow.Author.Tests.{eqb-true, lt-ltb, le-ltb, eq-eqb, ne-eqb}
 use lib.Dec.{eqb, ltb}
-use lib.ListN.{length, take, getD}
+use lib.ListN.{length, take, drop, getD, drop-of-length-le}
+use lib.Seq.{drop-cons}
 use Rattle.lists.specs.Lists.{at, has, Every, Ascending}
-use Rattle.lists.specs.Arrays.{rank}
+use Rattle.lists.specs.Arrays.{rank, leads}
 use Rattle.lists.proofs.Tests.{same-test, and-both, and-left, and-right}
 use Rattle.lists.proofs.Keep.{any-same, every-member, every-always, every-more}
 use Rattle.lists.proofs.Order.{by-order}
-use Rattle.lists.proofs.Ranked.{has-at, rank-most, rank-least, ranked-lacks}
+use Rattle.lists.proofs.Ranked.{at-rank, rank-most, rank-least}
 use Rattle.lists.proofs.Distinct.{every-at}
 use Rattle.lists.proofs.Parts.{every-take, every-zipBy}
 use Rattle.lists.proofs.Pairs.{rank-same}
@@ -77,14 +78,15 @@ module _ (r t : ℕ) (w : Word t) where
     pub rank-low : (i : ℕ) → Ascending pairKey l → i < length l → isBefore r t (getD l i nobody) ≡ true → i < rank (isBefore r t) l
     rank-low i a h u = rw (rank-key l v) (rank-least pairKey (pairKey (pair r t)) nobody l i a h (sym (probe i h) ∙ u))
 
-    pub names-at : (i : ℕ) → i < length l → isPair r t (getD l i nobody) ≡ true → names l r t ≡ true
-    names-at i h u = sym (has-names l v) ∙ has-at pairKey (pairKey (pair r t)) nobody l i h (key-is (getD l i nobody) (every-at OfWord nobody i l h v) ∙ u)
+    -- the pair stands in a rising index only at its rank
+    pub names-rank : Ascending pairKey l → names l r t ≡ leads pairKey (pairKey (pair r t)) (drop (rank (isBefore r t) l) l)
+    names-rank a = sym (has-names l v) ∙ rw (rank-key l v) (at-rank pairKey (pairKey (pair r t)) l a)
 
-    pub names-lacks : Ascending pairKey l → (rank (isBefore r t) l < length l → isPair r t (getD l (rank (isBefore r t) l) nobody) ≡ false) → names l r t ≡ false
-    names-lacks a f =
-        let k = rank (isBefore r t) l in
-        let told : k < length l → eqb (pairKey (getD l k nobody)) (pairKey (pair r t)) ≡ false = λ h. key-is (getD l k nobody) (every-at OfWord nobody k l h v) ∙ f h in
-        sym (has-names l v) ∙ ranked-lacks pairKey (pairKey (pair r t)) nobody l a (rw (rank-key l v) at told)
+    pub leads-pair : (i : ℕ) → i < length l → leads pairKey (pairKey (pair r t)) (drop i l) ≡ isPair r t (getD l i nobody)
+    leads-pair i h = rw (drop-cons l i nobody h) (key-is (getD l i nobody) (every-at OfWord nobody i l h v))
+
+    pub leads-none : (i : ℕ) → length l ≤ i → leads pairKey (pairKey (pair r t)) (drop i l) ≡ false
+    leads-none i h = rw (drop-of-length-le l h)
 
 pub pairs-words : (x : Issuers) → Every Word (x .transactions) → Every OfWord (pairsIn x)
 pairs-words x v =

@@ -27,13 +27,9 @@ module _ (x : Issuers) where
   sides-at i d e h = zip-getD pair (x .records) (x .transactions) i d e (h .recordLength ∙ sym (h .transactionLength))
 
   -- what a call says of the elements at i, it says of the pair
-  pub sides-told : (p : Pair → Bool) (i : ℕ) (r b : Bool) → Sound x → r ≡ p (pair (getD (x .records) i 0) (getD (x .transactions) i 0)) → r ≡ b →
-      p (getD (sides x) i (pair 0 0)) ≡ b
-  sides-told p i r b h e q = ap p (sides-at i 0 0 h) ∙ sym e ∙ q
-
   pub pairs-told : (p : Pair → Bool) (i : ℕ) (r b : Bool) → Sound x → i < x .len → r ≡ p (pair (getD (x .records) i 0) (getD (x .transactions) i 0)) → r ≡ b →
       p (getD (pairsIn x) i (pair 0 0)) ≡ b
-  pairs-told p i r b h u e q = ap p (ap (λ l. getD l i (pair 0 0)) (sym (sides-front x)) ∙ getD-take (x .len) (sides x) i (pair 0 0) u) ∙ sides-told p i r b h e q
+  pairs-told p i r b h u e q = ap p (ap (λ l. getD l i (pair 0 0)) (sym (sides-front x)) ∙ getD-take (x .len) (sides x) i (pair 0 0) u ∙ sides-at i 0 0 h) ∙ sym e ∙ q
 
   pub pairs-length : Sound x → length (pairsIn x) ≡ x .len
   pairs-length h = ap length (sym (sides-front x)) ∙ length-take-le (x .len) (sides x) (omega (arith, sides-length h, h .room))

@@ -6,8 +6,7 @@ use mathlib.Core.Bool.{false}
 use native.Mathlib.Omega.{arith}
 use lib.ListN.{getD}
 use Rattle.lists.specs.Lists.{has, self}
-use Rattle.lists.specs.Arrays.{Distinct}
-use Rattle.lists.proofs.Distinct.{every-at, distinct-take, take-lacks}
+use Rattle.lists.proofs.Distinct.{every-at, take-lacks}
 use Rattle.store.specs.Roster.{Sound, slotsOf, freeSlot}
 use Rattle.store.specs.declared.roster.Roster.{Roster}
 

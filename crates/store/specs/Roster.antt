@@ -1,11 +1,11 @@
 -- What a roster holds, and what putting in, letting go and keeping do to it.
-use Prim.Native.Nat.{ℕ, zero, suc, _+_, _-_, _≤_, _<_}
+use Prim.Native.Nat.{ℕ, _+_, _-_, _≤_, _<_}
 use mathlib.Core.Path.{_≡_}
-use mathlib.Core.Bool.{Bool, true, false}
-use mathlib.Core.List.{List, [], _∷_}
+use mathlib.Core.Bool.{Bool}
+use mathlib.Core.List.{List}
 use lib.Dec.{eqb, ltb}
 use lib.ListN.{length, take, getD}
-use Rattle.lists.specs.Lists.{Every, keepBy, has, self}
+use Rattle.lists.specs.Lists.{Every, keepBy}
 use Rattle.lists.specs.Arrays.{insertAt, removeAt, Distinct}
 use Rattle.store.specs.declared.roster.Roster.{Roster}
 

@@ -39,27 +39,6 @@ fn is_pair(a: u64, b: u64, r: u64, t: u64) -> bool
     false
 }
 
-// Whether the pair is among the first n.
-fn is_named(
-    records: &[u64; 384],
-    transactions: &[u64; 384],
-    n: usize,
-    r: RecordKey,
-    t: Transaction,
-) -> bool
-    requires { ⌜ Sound (made (now records) (now transactions) n) ⌝ }
-    ensures { λ x. ⌜ x ≡ names (pairsIn (made (now (records .entry)) (now (transactions .entry)) n)) (r .0) (t .0) ⌝ }
-{
-    let mut i: usize = 0;
-    while i < n {
-        if is_pair(records[i], transactions[i], r.0, t.0) {
-            return true;
-        }
-        i += 1;
-    }
-    false
-}
-
 // How many of the first n pairs stand before (r, t), by halves.
 fn rank(
     records: &[u64; 384],
@@ -158,12 +137,14 @@ impl Issuers {
 
     // Whether the transaction is named under the record.
     pub fn names(self, r: RecordKey, t: Transaction) -> bool
-        requires { ⌜ Sound self ⌝ }
+        requires { ⌜ Sound self × Rising self ⌝ }
         ensures { λ x. ⌜ x ≡ names (pairsIn self) (r .0) (t .0) ⌝ }
     {
         let records = self.records;
         let transactions = self.transactions;
-        is_named(&records, &transactions, self.len, r, t)
+        let n = self.len;
+        let k = rank(&records, &transactions, n, r, t);
+        stands_at(&records, &transactions, n, k, r, t)
     }
 
     // Those whose flag is up, in their order.

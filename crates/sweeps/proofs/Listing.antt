@@ -4,12 +4,11 @@ use Prim.Native.Nat.{ℕ, _+_, _*_, _≤_, _<_}
 use mathlib.Core.Path.{_≡_, refl, sym, ap, _∙_}
 use mathlib.Core.Bool.{Bool, true, false, cond, not}
 use mathlib.Core.List.{List, [], _∷_, _++_, map}
-use native.Mathlib.Nat.{zero-add}
 use native.Mathlib.Omega.{arith}
 use native.Mathlib.Numerals.{add-one, add-two}
 use borrow.Author.Tests.{lt-ltb, le-ltb}
 use lib.ListN.{length, take, drop, getD, set, length-set}
-use lib.Seq.{sets, sets-eq}
+use lib.Seq.{sets}
 use Rattle.lists.specs.Lists.{consIf, keep, concatMap}
 use Rattle.lists.proofs.Keep.{length-keep}
 use Rattle.lists.proofs.Listing.{sets-front}

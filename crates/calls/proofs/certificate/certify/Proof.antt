@@ -1,6 +1,6 @@
 -- `certify` meets its contract: the entry is changed in its slot where the roster has the transaction.
 -- Assumes nothing.
-use Prim.Native.Nat.{ℕ, _≤_, _%_}
+use Prim.Native.Nat.{_≤_, _%_}
 use mathlib.Core.Path.{_≡_, sym, _∙_}
 use native.Mathlib.Omega.{arith}
 use borrow.Author.Needs.{needs}

@@ -1,8 +1,7 @@
 -- `record_absence` meets its contract: what was looked up is put back, changed as it was heard.
 -- Assumes nothing.
 use Prim.Native.Nat.{_<_}
-use mathlib.Core.Path.{_≡_, sym}
-use mathlib.Core.List.{[]}
+use mathlib.Core.Path.{sym}
 use native.Mathlib.Omega.{arith}
 use borrow.Author.Needs.{needs}
 use Rattle.calls.proofs.Looked.{within, slot-in, fits-there, absences-there, looked}

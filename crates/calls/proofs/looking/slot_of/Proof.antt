@@ -1,6 +1,6 @@
 -- `slot_of` meets its contract: the slot at the place that was found, or the first.
 -- Assumes nothing.
-use mathlib.Core.Path.{_≡_, sym, ap, _∙_}
+use mathlib.Core.Path.{sym, ap}
 use Prim.Native.Nat.{_<_}
 use native.Mathlib.Omega.{arith}
 use Rattle.calls.specs.Looking.{slotOf}

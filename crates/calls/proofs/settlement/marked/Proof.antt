@@ -1,9 +1,7 @@
 -- `marked` meets its contract, in any ledger where the entry lies.
 -- Assumes nothing.
-use mathlib.Core.Path.{_≡_, sym, ap, _∙_}
+use mathlib.Core.Path.{_∙_}
 use borrow.Author.Needs.{needs}
-use Rattle.entry.specs.Entry.{plainEntry, Means}
-use Rattle.rules.specs.Entries.{marked}
 use Rattle.calls.proofs.Single.{mark-unknown}
 use Rattle.calls.proofs.Looked.{unmoved, mark-heard}
 use Rattle.calls.proofs.settlement.marked.Statement.{statement}

@@ -1,8 +1,7 @@
 -- `settled` meets its contract: what was looked up is put back, with the record marked where the entry was found.
 -- Assumes nothing.
 use Prim.Native.Nat.{_<_}
-use mathlib.Core.Path.{_≡_, refl, sym}
-use mathlib.Core.List.{[]}
+use mathlib.Core.Path.{refl, sym}
 use native.Mathlib.Omega.{arith}
 use borrow.Author.Needs.{needs}
 use Rattle.ledger.specs.Contents.{contents}

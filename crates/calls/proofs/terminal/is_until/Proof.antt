@@ -1,6 +1,5 @@
 -- `is_until` meets its contract: until is read only where the terminal is stamped.
 -- Assumes nothing.
-use mathlib.Core.Path.{refl, sym, _∙_}
 use native.Mathlib.Omega.{arith}
 use borrow.Author.Tests.{eq-eqb, ne-eqb}
 use borrow.Author.Needs.{needs}

@@ -3,17 +3,17 @@
 use mathlib.Core.Path.{refl, sym, _∙_}
 use mathlib.Core.Logic.{⊎-elim}
 use borrow.Author.Tests.{lt-ltb, le-ltb}
-use Rattle.entry.specs.Entry.{plainEntry, termsOf}
+use Rattle.entry.specs.Entry.{plainEntry}
 use Rattle.judge.proofs.Judging.{sum-fits, by-answering, by-no-certificate, by-no-remote}
 use borrow.Author.Needs.{needs}
 use Rattle.judge.proofs.verdicts.by_routes.Statement.{statement}
 use Rattle.judge.proofs.verdicts.by_routes.Tie as tie
 
-cast-n : tie.Need-cast-n
-cast-n c = search needs
-
 reaches-beyond-requires : tie.Need-reaches-beyond-requires
 reaches-beyond-requires c κs = search needs
+
+cast-n : tie.Need-cast-n
+cast-n c = search needs
 
 answers-yet-requires : tie.Need-answers-yet-requires
 answers-yet-requires c κs = search needs
@@ -26,14 +26,14 @@ unfolding plainEntry
 returns c p l faces =
     let s = c .before .before .before .before .before .before .before .before .before .args in
     let e = plainEntry (s .e) in
-    let certified = lt-ltb 0 (s .e .certified) (c .before .before .before .before .before .if1 .taken) in
-    let beyond = sym (c .before .before .before .before .reaches-beyond .ensures (termsOf (s .e)) refl) ∙ c .before .before .before .if2 .taken in
+    let certified = lt-ltb 0 (s .e .certified) (c .before .before .before .before .before .before .before .if1 .taken) in
+    let beyond = sym (c .before .before .before .before .before .before .reaches-beyond .ensures) ∙ c .before .before .before .before .before .if2 .taken in
     let told = c .before .answers-yet .ensures (p .departures) (s .time .0) e (faces .view) (record { routes = refl; anchor = refl }) in
     c .told .ensures ∙ by-answering p (s .time .0) e (s .local .0) (faces .local) _ certified beyond told
 
 add-quiet : tie.Need-add-quiet
 add-quiet c =
-    let s = c .before .before .before .before .before in
+    let s = c .before .before .before in
     record { fits = sum-fits (s .args .e .at .0) (s .args .validity) (s .pre .1 .1 .0) (s .pre .1 .1 .1 .0) }
 
 quiet-requires : tie.Need-quiet-requires
@@ -42,11 +42,11 @@ quiet-requires c κs = search needs
 returns-2 : tie.Need-returns-2
 unfolding plainEntry
 returns-2 c p l faces =
-    let s = c .before .before .before .before .before .before .before .args in
+    let s = c .before .before .before .before .before .args in
     let e = plainEntry (s .e) in
     c .quiet .ensures
     ∙ ⊎-elim
-    (λ w. by-no-remote p (s .time .0) e (s .local .0) (faces .local) (s .validity) (faces .validity) (sym (w .1 .ensures (termsOf (s .e)) refl) ∙ w .2 .left))
+    (λ w. by-no-remote p (s .time .0) e (s .local .0) (faces .local) (s .validity) (faces .validity) (sym (w .1 .ensures) ∙ w .2 .left))
     (λ w. by-no-certificate p (s .time .0) e (s .local .0) (faces .local) (s .validity) (faces .validity) (le-ltb 0 (s .e .certified) (w .left)))
     (c .before .before .before .if1 .came)
 
@@ -54,8 +54,8 @@ pub by-routes-spec : {M : Type 1} → statement M
 by-routes-spec =
     tie.close
     (tie.spec
-    cast-n
     reaches-beyond-requires
+    cast-n
     answers-yet-requires
     told-requires
     returns

@@ -1,6 +1,6 @@
 -- The test of the entry that was found.
 -- Assumes nothing.
-use mathlib.Core.Path.{_≡_, refl, sym, _∙_}
+use mathlib.Core.Path.{sym, _∙_}
 use native.Mathlib.Omega.{arith}
 use Rattle.rules.specs.Readings.{abandonmentAnswers}
 use Rattle.entry.specs.Entry.{plainEntry}

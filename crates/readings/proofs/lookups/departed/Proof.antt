@@ -1,6 +1,6 @@
 -- A name is above 0; it is read where the entry lies.
 -- Assumes nothing.
-use mathlib.Core.Path.{_≡_, refl, sym, ap, _∙_}
+use mathlib.Core.Path.{refl, sym, _∙_}
 use native.Mathlib.Omega.{arith}
 use Rattle.rules.specs.Plain.{isNamed}
 use Rattle.entry.specs.Entry.{plainEntry}

@@ -1,6 +1,6 @@
 -- The certificate is read where the entry lies.
 -- Assumes nothing.
-use mathlib.Core.Path.{_≡_, refl, sym, _∙_}
+use mathlib.Core.Path.{refl, sym, _∙_}
 use native.Mathlib.Omega.{arith}
 use Rattle.rules.specs.Readings.{isExecuted}
 use Rattle.entry.specs.Entry.{plainEntry}

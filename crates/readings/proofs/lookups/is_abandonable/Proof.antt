@@ -1,7 +1,6 @@
 -- Each of the three tests decides in its turn.
 -- Assumes nothing.
 use mathlib.Core.Path.{sym, _∙_}
-use mathlib.Core.Bool.{false}
 use borrow.Author.Tests.{not-true, not-false, le-ltb, lt-ltb}
 use Rattle.readings.proofs.Looked.{first-fails, second-fails, third-tells, nought}
 use borrow.Author.Needs.{needs}

@@ -2,13 +2,15 @@
 -- Assumes nothing.
 use mathlib.Core.Path.{ap, _∙_}
 use Rattle.rules.specs.Index.{names}
+use Rattle.rules.proofs.Named.{index-rises}
+use Rattle.ledger.specs.Contents.{contents}
 use Rattle.readings.proofs.Looked.{says}
 use borrow.Author.Needs.{needs}
 use Rattle.readings.proofs.lookups.issued_by.Statement.{statement}
 use Rattle.readings.proofs.lookups.issued_by.Tie as tie
 
 names-requires : tie.Need-names-requires
-names-requires c κs = search needs
+names-requires c κs = (c .pre .issuers .sound, rw (c .pre .issuers .pairs) (index-rises (contents (c .args .ledger))))
 
 said-requires : tie.Need-said-requires
 said-requires c κs = search needs

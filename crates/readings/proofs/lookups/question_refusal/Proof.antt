@@ -1,8 +1,6 @@
 -- The lines of the table in their order.
 -- Assumes nothing.
-use mathlib.Core.Path.{_≡_, sym, _∙_}
-use mathlib.Core.Bool.{true, false, _&&_}
-use Rattle.rules.specs.Numbers.{isTime, isShard}
+use mathlib.Core.Path.{sym, _∙_}
 use borrow.Author.Tests.{not-true, not-false}
 use borrow.Author.Needs.{needs}
 use Rattle.readings.proofs.lookups.question_refusal.Statement.{statement}

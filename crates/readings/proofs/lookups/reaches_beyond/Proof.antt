@@ -1,6 +1,6 @@
 -- The test of the entry that was found; local is a shard.
 -- Assumes nothing.
-use mathlib.Core.Path.{_≡_, refl, sym, _∙_}
+use mathlib.Core.Path.{sym, _∙_}
 use native.Mathlib.Omega.{arith}
 use Prim.Native.Nat.{ℕ}
 use mathlib.Core.Bool.{Bool}
@@ -52,9 +52,9 @@ mul-e c = omega (arith, there (c .before .before) .slot)
 element-copy-out-e : tie.Need-element-copy-out-e
 element-copy-out-e c = there (c .before .before) .slot
 
-is-beyond-requires : tie.Need-is-beyond-requires
+reaches-beyond-requires : tie.Need-reaches-beyond-requires
 unfolding contents
-is-beyond-requires c κs = (there (c .before .before .before .before) .fits _, c .before .before .before .before .before .before .before .before .pre .good .local)
+reaches-beyond-requires c κs = (there (c .before .before .before .before) .fits _, c .before .before .before .before .before .before .before .before .pre .good .local)
 
 said-requires-2 : tie.Need-said-requires-2
 said-requires-2 c κs = search needs
@@ -64,7 +64,7 @@ unfolding contents
 returns-2 c =
     let k = c .before .before .before .before .before .before in
     let s = k .before .before .before .before in
-    answered (isBeyond (s .args .t1 .local .0)) (s .args .t1) (s .args .tx .0) (k .k .given .0 .0) _ _ _ (there k) (c .said2 .ensures) (c .before .is-beyond .ensures)
+    answered (isBeyond (s .args .t1 .local .0)) (s .args .t1) (s .args .tx .0) (k .k .given .0 .0) _ _ _ (there k) (c .said2 .ensures) (c .before .reaches-beyond .ensures)
 
 pub reaches-beyond-spec : {M : Type 1} → statement M
 reaches-beyond-spec =
@@ -79,6 +79,6 @@ reaches-beyond-spec =
     element-copy-out-slot
     mul-e
     element-copy-out-e
-    is-beyond-requires
+    reaches-beyond-requires
     said-requires-2
     returns-2)

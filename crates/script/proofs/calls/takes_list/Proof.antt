@@ -1,8 +1,6 @@
 -- `script::calls::takes_list`: The table of the code is that of the definition.
 -- Assumes nothing.
-use mathlib.Core.Path.{_≡_, refl, sym, _∙_}
-use Prim.Native.Nat.{ℕ}
-use native.Mathlib.Omega.{arith}
+use mathlib.Core.Path.{refl}
 use Rattle.script.specs.Calls.{takesList}
 use borrow.Author.Needs.{needs}
 use Rattle.script.proofs.calls.takes_list.Statement.{statement}

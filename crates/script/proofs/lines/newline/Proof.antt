@@ -1,8 +1,6 @@
 -- `script::lines::newline`: The invariant keeps the place between the two ends.
 -- Assumes nothing.
-use Prim.Native.Nat.{_+_, _-_, _≤_, _<_}
-use mathlib.Core.Path.{_≡_}
-use lib.ListN.{length}
+use Prim.Native.Nat.{_-_, _≤_}
 use borrow.Author.Needs.{needs}
 use Rattle.script.proofs.lines.newline.Statement.{statement}
 use Rattle.script.proofs.lines.newline.Tie as tie

@@ -1,6 +1,6 @@
 -- `script::lines::shift`: The invariant keeps the place between the two ends, and a store keeps the length.
 -- Assumes nothing.
-use Prim.Native.Nat.{_+_, _-_, _≤_, _<_}
+use Prim.Native.Nat.{_-_, _≤_}
 use mathlib.Core.Path.{_≡_}
 use lib.ListN.{length}
 use borrow.Author.Needs.{needs}

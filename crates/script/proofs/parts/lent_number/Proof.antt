@@ -1,7 +1,6 @@
 -- `script::parts::lent_number`: A number over 4,096, and one within, are a law each.
 -- Assumes nothing.
-use native.Mathlib.Omega.{arith}
-use mathlib.Core.Path.{_∙_, sym, ap, refl}
+use mathlib.Core.Path.{_∙_}
 use Rattle.script.proofs.Grammar.{lent-over, lent-fits}
 use borrow.Author.Needs.{needs}
 use Rattle.script.proofs.parts.lent_number.Statement.{statement}

@@ -1,7 +1,7 @@
 -- `script::parts::tail_of`: The invariant: the tail from here on, behind the numbers so far, is the tail of the whole; the numbers stored, with those to come, are all.
 -- Assumes nothing.
 use native.Mathlib.Omega.{arith}
-use mathlib.Core.Path.{_∙_, sym, ap, refl}
+use mathlib.Core.Path.{_∙_, sym, refl}
 use Rattle.script.proofs.Grammar.{tail-small, tail-lent, numbers-lent, tail-number, numbers-number, tail-not, tail-many, tail-end, numbers-end, small-of, not-good, stored-number, all-stored, lent-stored}
 use Prim.Native.Nat.{_-_, _≤_}
 use mathlib.Core.Path.{_≡_}

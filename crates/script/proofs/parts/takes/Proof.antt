@@ -1,8 +1,6 @@
 -- `script::parts::takes`: A call that takes any count takes this one, and any other is asked for its own.
 -- Assumes nothing.
-use mathlib.Core.Path.{_≡_, refl, sym, _∙_}
-use Prim.Native.Nat.{ℕ}
-use native.Mathlib.Omega.{arith}
+use mathlib.Core.Path.{sym, _∙_}
 use borrow.Author.Tests.{eqb-true}
 use borrow.Author.Needs.{needs}
 use Rattle.script.proofs.parts.takes.Statement.{statement}

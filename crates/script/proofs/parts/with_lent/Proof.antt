@@ -1,7 +1,7 @@
 -- `script::parts::with_lent`: No token, several and one are a law each.
 -- Assumes nothing.
 use native.Mathlib.Omega.{arith}
-use mathlib.Core.Path.{_∙_, sym, ap, refl}
+use mathlib.Core.Path.{_∙_, ap}
 use Rattle.script.specs.Grammar.{lentNumber}
 use Rattle.script.proofs.Grammar.{lent-none, lent-several, lent-one}
 use borrow.Author.Needs.{needs}

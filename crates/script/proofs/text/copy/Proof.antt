@@ -1,8 +1,7 @@
 -- `script::text::copy`: As many bytes are put as are passed.
 -- Assumes nothing.
-use Prim.Native.Nat.{_+_, _-_, _≤_, _<_}
+use Prim.Native.Nat.{_+_, _-_, _≤_}
 use mathlib.Core.Path.{_≡_}
-use lib.ListN.{length}
 use borrow.Author.Needs.{needs}
 use Rattle.script.proofs.text.copy.Statement.{statement}
 use Rattle.script.proofs.text.copy.Tie as tie

@@ -1,6 +1,6 @@
 -- `script::tokens::token_end`: The invariant: the place, and what is left of the token, end where the token ends.
 -- Assumes nothing.
-use Prim.Native.Nat.{_+_, _-_, _≤_, _<_}
+use Prim.Native.Nat.{_+_, _-_, _≤_}
 use mathlib.Core.Path.{_≡_, ap}
 use lib.ListN.{length, drop}
 use native.Mathlib.Omega.{arith}

@@ -1,15 +1,15 @@
 -- The pair stands in a rising index only at its rank.
 -- Assumes nothing.
-use mathlib.Core.Path.{_≡_, refl, sym}
-use mathlib.Core.Bool.{Bool, true, false}
+use mathlib.Core.Path.{_≡_, refl, sym, _∙_}
 use native.Mathlib.Omega.{arith}
-use lib.ListN.{getD}
-use Rattle.rules.specs.Index.{names}
+use lib.ListN.{drop}
+use Rattle.lists.specs.Arrays.{leads}
+use Rattle.rules.specs.Index.{pairKey, names}
 use Rattle.store.specs.declared.issuers.Issuers.{Issuers}
 use Rattle.store.specs.Issuers.{made, pair, pairsIn, isPair}
 use Rattle.store.proofs.Pairs.{pairs-length, pairs-told}
 use Rattle.store.proofs.Typed.{Word}
-use Rattle.store.proofs.Keyed.{names-at, names-lacks}
+use Rattle.store.proofs.Keyed.{names-rank, leads-pair, leads-none}
 use borrow.Author.Needs.{needs}
 use Rattle.store.proofs.issuers.stands_at.Statement.{statement}
 use Rattle.store.proofs.issuers.stands_at.Tie as tie
@@ -35,26 +35,23 @@ element-copy-out-is-pair-2 c = search needs
 is-pair-requires : tie.Need-is-pair-requires
 is-pair-requires c κs = search needs
 
+-- what stands at the rank tells whether the pair stands
+at : (s : tie.Start) → names (pairsIn (whole s)) (s .args .r .0) (s .args .t .0) ≡ leads pairKey (pairKey (pair (s .args .r .0) (s .args .t .0))) (drop (s .args .k) (pairsIn (whole s)))
+at s = rw (s .pre .3) (names-rank (s .args .r .0) (s .args .t .0) (is-word s) (pairsIn (whole s)) (s .pre .2) (s .pre .1))
+
 returns : tie.Need-returns
 returns c =
     let s = c .before .before .before .before in
     let x = whole s in
-    let size = pairs-length x (s .pre .0) in
-    let k = s .args .k in
     let p = isPair (s .args .r .0) (s .args .t .0) in
-    let told : (b : Bool) → c .is-pair .result ≡ b → p (getD (pairsIn x) k (pair 0 0)) ≡ b = λ b e. pairs-told x p k _ b (s .pre .0) (omega arith) (c .is-pair .ensures) e in
-    elim (c .is-pair .result) as (λ r. c .is-pair .result ≡ r → r ≡ names (pairsIn x) (s .args .r .0) (s .args .t .0)) [
-      | true ↦ (λ e. sym (names-at (s .args .r .0) (s .args .t .0) (is-word s) (pairsIn x) (s .pre .2) k (omega (arith, size)) (told true e)))
-      | false ↦ (λ e. sym (names-lacks (s .args .r .0) (s .args .t .0) (is-word s) (pairsIn x) (s .pre .2) (s .pre .1) (λ h. rw (s .pre .3) at (told false e))))
-    ]
-    refl
+    let here = pairs-told x p (s .args .k) _ _ (s .pre .0) (omega arith) (c .is-pair .ensures) refl in
+    sym (at s ∙ leads-pair (s .args .r .0) (s .args .t .0) (is-word s) (pairsIn x) (s .pre .2) (s .args .k) (omega (arith, pairs-length x (s .pre .0))) ∙ here)
 
 returns-2 : tie.Need-returns-2
 returns-2 c =
     let s = c .before in
     let x = whole s in
-    let size = pairs-length x (s .pre .0) in
-    sym (names-lacks (s .args .r .0) (s .args .t .0) (is-word s) (pairsIn x) (s .pre .2) (s .pre .1) (λ h. absurd (omega (arith, size, s .pre .3))))
+    sym (at s ∙ leads-none (s .args .r .0) (s .args .t .0) (is-word s) (pairsIn x) (s .pre .2) (s .args .k) (omega (arith, pairs-length x (s .pre .0))))
 
 pub stands-at-spec : {M : Type 1} → statement M
 stands-at-spec =

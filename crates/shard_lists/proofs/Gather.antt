@@ -1,0 +1,74 @@
+-- Numbers gathered in a set. A loop that gathers holds a set and what is still to come: put in, that makes the target.
+-- Assumes nothing.
+use Prim.Native.Nat.{ℕ, _+_, _≤_}
+use mathlib.Core.Path.{_≡_, refl, sym, ap, _∙_}
+use mathlib.Core.Bool.{Bool, true, false}
+use mathlib.Core.List.{List, [], _∷_, _++_}
+use native.Mathlib.Omega.{arith}
+use lib.ListN.{length, drop}
+use lib.Seq.{length-take-le}
+use Rattle.lists.specs.Lists.{has, include, includeAll, self, setOf}
+use Rattle.lists.specs.Arrays.{rank, leads}
+use Rattle.lists.proofs.Order.{ascending-include, include-known, length-includeAll}
+use Rattle.lists.proofs.Loops.{rank-le, include-rank}
+use Rattle.lists.proofs.Ranked.{at-rank}
+use Rattle.shard_lists.specs.Sets.{Set, made, front, under, Sized, Sound, Holds, Opened}
+use Rattle.lists.proofs.Sets.{first-put}
+
+pub front-length : (s : Set) → Sized s → length (front s) ≡ s .len
+front-length s h = length-take-le (s .len) (s .items) (omega (arith, h .room, h .size))
+
+-- Putting one in.
+
+module _ (s : Set) (x : ℕ) (h : Sound s) (k : ℕ) (q : k ≡ rank (under x) (front s)) where
+  pub rank-room : k ≤ s .len
+  rank-room = omega (arith, q, rank-le (under x) (front s), front-length s (h .sized))
+
+  seen : (b r : Bool) → r ≡ leads self x (drop k (front s)) → r ≡ b → has self x (front s) ≡ b
+  seen b r e t = at-rank self x (front s) (h .rising) ∙ ap (λ i. leads self x (drop i (front s))) (sym q) ∙ sym e ∙ t
+
+  pub known-in : (r : Bool) → r ≡ leads self x (drop k (front s)) → r ≡ true → Holds (include self x (front s)) s
+  known-in r e t = record { sound = h; holds = sym (include-known self x (front s) (h .rising) (seen true r e t)) }
+
+  pub put-in : (r : Bool) (w : Set) → r ≡ leads self x (drop k (front s)) → r ≡ false → Opened s k x w → Holds (include self x (front s)) w
+  put-in r w b t o =
+      let e : front w ≡ include self x (front s) = o .holds ∙ rw q (include-rank self x (front s) (seen false r b t)) in
+      record { sound = record { sized = o .sized; rising = rw e (ascending-include self x (front s) (h .rising)) }; holds = e }
+
+-- A loop that gathers.
+
+pub record Sofar (target rest : List ℕ) (most : ℕ) (s : Set) : Type 0 where
+  pub sound : Sound s
+  pub few : s .len ≤ most
+  pub same : includeAll self rest (front s) ≡ target
+
+pub none-yet : (l : List ℕ) (m : ℕ) (items : List ℕ) → length items ≡ 264 → Sofar (setOf l) l m (made items 0)
+none-yet l m items h = record { sound = record { sized = record { room = omega arith; size = h }; rising = tt }; few = omega arith; same = refl }
+
+pub begun : (l : List ℕ) (m : ℕ) (s : Set) → s .len ≤ m → Sound s → Sofar (includeAll self l (front s)) l m s
+begun l m s b h = record { sound = h; few = b; same = refl }
+
+pub ended : {target : List ℕ} {most : ℕ} {s : Set} (rest : List ℕ) → rest ≡ [] → Sofar target rest most s → Holds target s
+ended {target} {most} {s} rest e h = record { sound = h .sound; holds = ap (λ l. includeAll self l (front s)) (sym e) ∙ h .same }
+
+pub passed-by : {target : List ℕ} {most : ℕ} {s : Set} (old new : List ℕ) (m : ℕ) → old ≡ new → most ≤ m → Sofar target old most s → Sofar target new m s
+passed-by {target} {most} {s} old new m e b h =
+    record { sound = h .sound; few = omega (arith, h .few); same = ap (λ l. includeAll self l (front s)) (sym e) ∙ h .same }
+
+pub put-all : {target : List ℕ} {most : ℕ} {s : Set} (a old new : List ℕ) (m : ℕ) (r : Set) → old ≡ a ++ new → most + length a ≤ m →
+    Sofar target old most s → Holds (includeAll self a (front s)) r → Sofar target new m r
+put-all {target} {most} {s} a old new m r e b h p =
+    record {
+      sound = p .sound;
+      few =
+          omega (arith, h .few, front-length r (p .sound .sized), ap length (p .holds), length-includeAll self a (front s), front-length s (h .sound .sized));
+      same =
+          ap (includeAll self new) (p .holds)
+          ∙ sym (first-put a new (front s) (h .sound .rising))
+          ∙ ap (λ l. includeAll self l (front s)) (sym e)
+          ∙ h .same;
+    }
+
+pub put-one : {target : List ℕ} {most : ℕ} {s : Set} (x : ℕ) (old new : List ℕ) (m : ℕ) (r : Set) → old ≡ x ∷ new → most + 1 ≤ m →
+    Sofar target old most s → Holds (include self x (front s)) r → Sofar target new m r
+put-one x old new m r e b h p = put-all (x ∷ []) old new m r e (omega arith) h p

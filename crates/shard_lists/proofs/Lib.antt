@@ -1,0 +1,4 @@
+pub mod Gather
+pub mod OnFile
+pub mod Crossing
+pub mod Listed

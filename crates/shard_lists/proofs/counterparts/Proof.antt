@@ -1,0 +1,103 @@
+-- The shards gathered are written out; a depth over 32 is refused first, and a transaction not owed has none.
+-- Assumes nothing.
+use mathlib.Core.Path.{sym, _∙_}
+use native.Mathlib.Omega.{arith}
+use Rattle.ledger.specs.Contents.{contents}
+use borrow.Author.Tests.{le-leb}
+use Rattle.shard_lists.proofs.Listed.{Owed, owed-at, too-deep, no-counterparts, set-room, of-counterparts}
+use borrow.Author.Needs.{needs}
+use Rattle.shard_lists.proofs.counterparts.Statement.{statement}
+use Rattle.shard_lists.proofs.counterparts.Tie as tie
+
+there : (c : tie.After-k) → Owed (c .before .before .before .before .before .before .args .t1) (c .before .before .before .before .before .before .args .tx .0) (c .k .given .0 .0)
+there c =
+    let s = c .before .before .before .before .before .before in
+    owed-at (s .args .t1) (s .pre) (s .args .tx .0) (c .k .given .0 .0) (sym (c .before .before .find .ensures) ∙ c .k .given .1)
+
+refusal-requires : tie.Need-refusal-requires
+refusal-requires c κs = search needs
+
+returns : tie.Need-returns
+returns c =
+    let s = c .before .before .before in
+    let a = s .args in
+    too-deep (a .t1) (s .pre) (a .tx .0) (a .depth) (a .lent .now) _ (omega arith) (c .refusal .ensures)
+
+find-requires : tie.Need-find-requires
+find-requires c κs = search needs
+
+enum-known-k : tie.Need-enum-known-k
+enum-known-k c = search needs
+
+enum-told : tie.Need-enum-told
+enum-told c = search needs
+
+told-requires : tie.Need-told-requires
+told-requires c κs = search needs
+
+returns-2 : tie.Need-returns-2
+returns-2 c =
+    let s = c .before .before .before .before .before .before .before in
+    let a = s .args in
+    no-counterparts (a .t1) (s .pre) (a .tx .0) (a .depth) (a .lent .now) _ (omega arith) (sym (c .before .before .before .find .ensures) ∙ c .before .enum-told .given .1) (c .told .ensures)
+
+mul-slot : tie.Need-mul-slot
+mul-slot c = omega (arith, there (c .before) .place)
+
+element-copy-out-slot : tie.Need-element-copy-out-slot
+element-copy-out-slot c = omega (arith, there (c .before) .place)
+
+mul-e : tie.Need-mul-e
+mul-e c = omega (arith, there (c .before .before) .slot)
+
+element-copy-out-e : tie.Need-element-copy-out-e
+element-copy-out-e c = omega (arith, there (c .before .before) .slot)
+
+cast-beyond : tie.Need-cast-beyond
+cast-beyond c = search needs
+
+beyond-requires : tie.Need-beyond-requires
+unfolding contents
+beyond-requires c κs =
+    let k = c .before .before .before .before .before .before in
+    let s = k .before .before .before .before .before .before in
+    (there k .fits _, record { sound = s .pre .departures; good = s .pre .good .departures }, s .pre .good .local, le-leb (s .args .depth) 32 (omega arith), search needs)
+
+slice-aggregate-list : tie.Need-slice-aggregate-list
+slice-aggregate-list c = sym (c .before .beyond .ensures .sound .sized .size)
+
+list-requires : tie.Need-list-requires
+list-requires c κs = set-room (c .before .before .beyond .ensures)
+
+same-length : tie.Need-same-length
+same-length c = search needs
+
+returns-3 : tie.Need-returns-3
+returns-3 c =
+    let k = c .before .before .before .before .before .before .before .before .before .before .before .before in
+    let s = k .before .before .before .before .before .before in
+    let a = s .args in
+    of-counterparts (a .t1) (s .pre) (a .tx .0) (a .depth) (a .lent .now) (omega arith) (k .k .given .0 .0) _ _ _ _
+    (sym (k .before .before .find .ensures) ∙ k .k .given .1) (c .before .before .before .before .before .beyond .ensures) (c .before .before .list .ensures)
+
+pub counterparts-spec : {M : Type 1} → statement M
+counterparts-spec =
+    tie.close
+    (tie.spec
+    refusal-requires
+    returns
+    find-requires
+    enum-known-k
+    enum-told
+    told-requires
+    returns-2
+    mul-slot
+    element-copy-out-slot
+    mul-e
+    element-copy-out-e
+    cast-beyond
+    beyond-requires
+    slice-aggregate-list
+    list-requires
+    same-length
+    returns-3)
