@@ -53,14 +53,14 @@ impl Shard {
     }
 
     // Whether the route's top bits are the shard's path. With a one bit put in front of the route, the two are compared
-    // in one shift, and the root, which owns all, is no case of its own.
+    // in one shift by what is not depth, and the root, which owns all, is no case of its own.
     pub fn owns(self, route: u64) -> bool
         requires { ⌜ isShard (self .0) ≡ true ⌝ }
         ensures { λ r. ⌜ r ≡ owns (self .0) route ⌝ }
     {
         let n = self.0;
         let led = (route >> 1) + 0x8000_0000_0000_0000;
-        (led >> u64::leading_zeros(n)) == n
+        (led >> (63 - self.depth())) == n
     }
 }
 
