@@ -1,9 +1,8 @@
 // Abandonment record: what a shard's abandonment names, and what it brings back.
 ghost use mathlib.Core.Path.{_≡_};
-ghost use mathlib.Core.Bool.{true, cond};
+ghost use mathlib.Core.Bool.{true};
 ghost use mathlib.Core.List.{[]};
 ghost use Prim.Native.Nat.{_+_, _≤_, min};
-ghost use lib.Dec.{ltb};
 ghost use lib.ListN.{length, take};
 ghost use Rattle.lists.specs.Lists.{has, self};
 ghost use Rattle.rules.specs.Numbers.{maxCount};
@@ -13,6 +12,7 @@ ghost use Rattle.store.specs.Roster.{Sound, keysOf};
 ghost use Rattle.ledger.specs.Contents.{Held, contents};
 ghost use Rattle.ledger.specs.Meets.{Meets};
 ghost use Rattle.batches.specs.Abandoned.{transactions, newTo, refusalBy};
+use crate::items_of;
 use ledger::Done;
 use ledger::Ledger;
 use lists::Found;
@@ -94,16 +94,6 @@ fn capped(count: u64, n: u64) -> u64
     count + n
 }
 
-// How many groups there are to go through, none where the record is refused.
-fn groups_of(words: &[u64], refused: u64) -> usize
-    ensures { λ r. ⌜ r ≡ cond (ltb 0 refused) 0 (groupCount (now (words .entry))) ⌝ }
-{
-    if 0 < refused {
-        return 0;
-    }
-    size_at(words, 0)
-}
-
 // Notes what a record abandons, and answers how many entries were rebuilt. Group by group: an owed entry takes the shard's name, any
 // other is rebuilt and put in.
 pub fn record_abandonment(mut ledger: Ledger, words: &[u64]) -> Done
@@ -111,7 +101,7 @@ pub fn record_abandonment(mut ledger: Ledger, words: &[u64]) -> Done
     ensures { λ r. ⌜ Meets (afterAbandonment (now (words .entry)) (contents ledger)) [] [] r ⌝ }
 {
     let refused = refusal(ledger.roster, words);
-    let n = groups_of(words, refused);
+    let n = items_of(words, refused);
     let shard = Shard(word_at(words, 1));
     let mut at = 2 + n + 5 * n;
     let mut rebuilt: u64 = 0;

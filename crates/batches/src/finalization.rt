@@ -1,17 +1,17 @@
 // Finalization: what a committed block's verdicts resolve.
 ghost use mathlib.Core.Path.{_≡_};
-ghost use mathlib.Core.Bool.{true, cond, not, _&&_};
+ghost use mathlib.Core.Bool.{true, not, _&&_};
 ghost use mathlib.Core.List.{[]};
-ghost use lib.Dec.{ltb};
 ghost use Rattle.lists.specs.Lists.{has, self};
 ghost use Rattle.rules.specs.Plain.{isCore, isSettling, owes};
 ghost use Rattle.rules.specs.Calls.{finalizationRefusal, afterFinalization};
 ghost use Rattle.rules.specs.Entries.{rulingOn};
-ghost use Rattle.rules.specs.Words.{lineCount, finalizationFormed, deciding};
+ghost use Rattle.rules.specs.Words.{finalizationFormed, deciding};
 ghost use Rattle.entry.specs.Entry.{plainEntry, plainPart, Fits};
 ghost use Rattle.ledger.specs.Contents.{Held, contents};
 ghost use Rattle.ledger.specs.Meets.{Meets};
 ghost use Rattle.batches.specs.Rulings.{plainRuling, decided, line};
+use crate::items_of;
 use entry::Entry;
 use entry::Part;
 use ledger::Done;
@@ -87,16 +87,6 @@ fn rule(words: &[u64], tx: Transaction, code: u64, e: Entry, local: Shard) -> Ru
     decide(code, open, owing)
 }
 
-// How many lines there are, none where the words are refused.
-fn lines_of(words: &[u64], refused: u64) -> usize
-    ensures { λ r. ⌜ r ≡ cond (ltb 0 refused) 0 (lineCount (now (words .entry))) ⌝ }
-{
-    if 0 < refused {
-        return 0;
-    }
-    size_at(words, 0)
-}
-
 // The number by which the words are turned away, 0 for none.
 fn refusal(words: &[u64]) -> u64
     ensures { λ r. ⌜ r ≡ finalizationRefusal (now (words .entry)) ⌝ }
@@ -110,7 +100,7 @@ pub fn release_resolved(mut ledger: Ledger, words: &[u64]) -> Done
     ensures { λ r. ⌜ Meets (afterFinalization (now (words .entry)) (contents ledger)) [] [] r ⌝ }
 {
     let refused = refusal(words);
-    let n = lines_of(words, refused);
+    let n = items_of(words, refused);
     let mut released: u64 = 0;
     let mut i: usize = 0;
     while i < n {

@@ -8,4 +8,5 @@ pub mod Entries
 pub mod Calls
 pub mod Readings
 pub mod Good
+pub mod Reached
 pub mod Instances

@@ -36,13 +36,13 @@ record Stands (l₀ : Ledger) (ws : List ℕ) (refused n : ℕ) (l : Ledger) (st
   so : Rebuilding l₀ ws l start rebuilt i
 
 stands : (c : tie.In-loop Inv-loop μ-loop) → Stands (c .before .before .before .before .before .before .before .args .t1) (c .before .before .before .before .before .before .before .args .words .now)
-    (c .before .before .before .before .refusal .result) (c .before .before .before .groups-of .result) (c .before .loop .ledger) (c .before .loop .at) (c .before .loop .rebuilt) (c .before .loop .i)
+    (c .before .before .before .before .refusal .result) (c .before .before .before .items-of .result) (c .before .loop .ledger) (c .before .loop .at) (c .before .loop .rebuilt) (c .before .loop .i)
 stands c =
     let n = c .before .before .before in
     let s = n .before .before .before .before in
     let ws = s .args .words .now in
     let o = c .before .loop in
-    let t = turning (n .before .refusal .result) (groupCount ws) (n .groups-of .result) (o .i) (n .groups-of .ensures) (c .loop-test .taken) in
+    let t = turning (n .before .refusal .result) (groupCount ws) (n .items-of .result) (o .i) (n .items-of .ensures) (c .loop-test .taken) in
     let p = passes-by (s .args .t1) ws (n .before .refusal .result) (s .pre) (n .before .refusal .ensures) (t .0) in
     let v = o .inv .goes (t .0) in
     let h : o .i < groupCount ws = omega (arith, t .1, c .loop-test .taken) in
@@ -73,17 +73,17 @@ room c =
     (sym (c .before .before .find .ensures) ∙ c .enum-told .given .1)
 
 -- how many groups there are at most
-few : (c : tie.After-word-at Inv-loop μ-loop) → c .before .groups-of .result ≤ 48
+few : (c : tie.After-word-at Inv-loop μ-loop) → c .before .items-of .result ≤ 48
 few c =
     let r = c .before .before in
     let s = r .before .before .before in
-    groups-few (s .args .t1) (s .args .words .now) (r .refusal .result) (c .before .groups-of .result) (s .pre) (r .refusal .ensures) (c .before .groups-of .ensures)
+    groups-few (s .args .t1) (s .args .words .now) (r .refusal .result) (c .before .items-of .result) (s .pre) (r .refusal .ensures) (c .before .items-of .ensures)
 
 refusal-requires : tie.Need-refusal-requires Inv-loop μ-loop
 refusal-requires c κs = c .before .before .pre .roster
 
-groups-of-requires : tie.Need-groups-of-requires Inv-loop μ-loop
-groups-of-requires c κs = search needs
+items-of-requires : tie.Need-items-of-requires Inv-loop μ-loop
+items-of-requires c κs = search needs
 
 word-at-requires : tie.Need-word-at-requires Inv-loop μ-loop
 word-at-requires c κs = search needs
@@ -103,7 +103,7 @@ loop-holds c =
     let s = r .before .before .before in
     starts (r .refusal .result) (s .args .t1) _
     (λ e. rebuilding (s .args .t1) (s .args .words .now) _ (s .pre) (passes-by (s .args .t1) (s .args .words .now) (r .refusal .result) (s .pre) (r .refusal .ensures) e .formed)
-    (ap (λ m. 2 + m + 5 * m) (taken (r .refusal .result) _ _ (c .before .groups-of .ensures) e)))
+    (ap (λ m. 2 + m + 5 * m) (taken (r .refusal .result) _ _ (c .before .items-of .ensures) e)))
 
 group-requires : tie.Need-group-requires Inv-loop μ-loop
 group-requires c κs = (stands c .passed .formed, stands c .group, stands c .so .reach)
@@ -210,8 +210,8 @@ returns c =
     let o = c .before .before .loop in
     let n = c .before .before .before .before in
     let s = n .before .before .before .before in
-    rebuilds (s .args .t1) (s .args .words .now) (o .ledger) (n .before .refusal .result) (n .groups-of .result) (o .at) (o .rebuilt) (o .i) (c .capped .result) (s .pre) (n .before .refusal .ensures)
-    (n .groups-of .ensures) (o .inv) (c .before .loop-test .left) (c .capped .ensures)
+    rebuilds (s .args .t1) (s .args .words .now) (o .ledger) (n .before .refusal .result) (n .items-of .result) (o .at) (o .rebuilt) (o .i) (c .capped .result) (s .pre) (n .before .refusal .ensures)
+    (n .items-of .ensures) (o .inv) (c .before .loop-test .left) (c .capped .ensures)
 
 pub record-abandonment-spec : {M : Type 1} → statement M
 record-abandonment-spec =
@@ -220,7 +220,7 @@ record-abandonment-spec =
     Inv-loop
     μ-loop
     refusal-requires
-    groups-of-requires
+    items-of-requires
     word-at-requires
     add-at
     mul-at

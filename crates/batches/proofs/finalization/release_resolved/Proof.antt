@@ -32,11 +32,11 @@ record Stands (l₀ : Ledger) (ws : List ℕ) (refused n : ℕ) (l : Ledger) (re
   so : Resolving l₀ ws l released i
 
 stands : (c : tie.In-loop Inv-loop μ-loop) → Stands (c .before .before .before .before .before .args .t1) (c .before .before .before .before .before .args .words .now)
-    (c .before .before .before .refusal .result) (c .before .before .lines-of .result) (c .before .loop .ledger) (c .before .loop .released) (c .before .loop .i)
+    (c .before .before .before .refusal .result) (c .before .before .items-of .result) (c .before .loop .ledger) (c .before .loop .released) (c .before .loop .i)
 stands c =
     let n = c .before .before in
     let ws = n .before .before .before .args .words .now in
-    let t = turning (n .before .refusal .result) (lineCount ws) (n .lines-of .result) (c .before .loop .i) (n .lines-of .ensures) (c .loop-test .taken) in
+    let t = turning (n .before .refusal .result) (lineCount ws) (n .items-of .result) (c .before .loop .i) (n .items-of .ensures) (c .loop-test .taken) in
     let f = formed ws (n .before .refusal .result) (n .before .refusal .ensures) (t .0) in
     record {
       none = t .0;
@@ -58,8 +58,8 @@ there c =
 refusal-requires : tie.Need-refusal-requires Inv-loop μ-loop
 refusal-requires c κs = search needs
 
-lines-of-requires : tie.Need-lines-of-requires Inv-loop μ-loop
-lines-of-requires c κs = search needs
+items-of-requires : tie.Need-items-of-requires Inv-loop μ-loop
+items-of-requires c κs = search needs
 
 loop-holds : tie.Need-loop-holds Inv-loop μ-loop
 loop-holds c =
@@ -142,7 +142,7 @@ loop-again-2 c =
     let k = c .before .before .before .before .before .before .before in
     goes-on (s .before .refusal .result) (a .t1) _ _ _ (stands w .none)
     (line-skip (a .t1) (a .words .now) (stands w .formed) (o .ledger) (o .released) (o .i) (stands w .so) (stands w .line) (k .k .given .0 .0) _
-    (sym (k .before .before .find .ensures) ∙ k .k .given .1) (s .lines-of .result) (stands w .lines) (c .before .before .rule .result) (c .before .before .rule .ensures) (c .enum-told2 .given .1))
+    (sym (k .before .before .find .ensures) ∙ k .k .given .1) (s .items-of .result) (stands w .lines) (c .before .before .rule .result) (c .before .before .rule .ensures) (c .enum-told2 .given .1))
 
 enum-told-3 : tie.Need-enum-told-3 Inv-loop μ-loop
 enum-told-3 c = search needs
@@ -168,7 +168,7 @@ loop-again-3 c =
     let k = c .before .before .before .before .before .before .before .before in
     goes-on (s .before .refusal .result) (a .t1) _ _ _ (stands w .none)
     (line-turn (a .t1) (a .words .now) (stands w .formed) (o .ledger) (o .released) (o .i) (stands w .so) (stands w .line) (k .k .given .0 .0) _
-    (sym (k .before .before .find .ensures) ∙ k .k .given .1) (s .lines-of .result) (stands w .lines) (c .before .before .before .rule .result) (c .before .before .before .rule .ensures) (c .before .enum-told3 .given .1) (c .turned .result) (c .turned .ensures))
+    (sym (k .before .before .find .ensures) ∙ k .k .given .1) (s .items-of .result) (stands w .lines) (c .before .before .before .rule .result) (c .before .before .before .rule .ensures) (c .before .enum-told3 .given .1) (c .turned .result) (c .turned .ensures))
 
 enum-told-4 : tie.Need-enum-told-4 Inv-loop μ-loop
 enum-told-4 c = search needs
@@ -194,15 +194,15 @@ loop-again-4 c =
     let k = c .before .before .before .before .before .before .before .before .before .before in
     goes-on (s .before .refusal .result) (a .t1) _ _ _ (stands w .none)
     (line-release (a .t1) (a .words .now) (stands w .formed) (o .ledger) (o .released) (o .i) (stands w .so) (stands w .line) (k .k .given .0 .0) _
-    (sym (k .before .before .find .ensures) ∙ k .k .given .1) (s .lines-of .result) (stands w .lines) (c .before .before .before .before .before .rule .result) (c .before .before .before .before .before .rule .ensures) (c .before .before .before .enum-told4 .given .1) (c .before .closed .result) (c .without .result) (c .before .closed .ensures) (c .without .ensures))
+    (sym (k .before .before .find .ensures) ∙ k .k .given .1) (s .items-of .result) (stands w .lines) (c .before .before .before .before .before .rule .result) (c .before .before .before .before .before .rule .ensures) (c .before .before .before .enum-told4 .given .1) (c .before .closed .result) (c .without .result) (c .before .closed .ensures) (c .without .ensures))
 
 returns : tie.Need-returns Inv-loop μ-loop
 returns c =
     let o = c .before .loop in
     let n = c .before .before in
     let s = n .before .before .before in
-    resolves (s .args .t1) (s .args .words .now) (o .ledger) (n .before .refusal .result) (n .lines-of .result) (o .released) (o .i) (s .pre) (n .before .refusal .ensures)
-    (n .lines-of .ensures) (o .inv) (c .loop-test .left)
+    resolves (s .args .t1) (s .args .words .now) (o .ledger) (n .before .refusal .result) (n .items-of .result) (o .released) (o .i) (s .pre) (n .before .refusal .ensures)
+    (n .items-of .ensures) (o .inv) (c .loop-test .left)
 
 pub release-resolved-spec : {M : Type 1} → statement M
 release-resolved-spec =
@@ -211,7 +211,7 @@ release-resolved-spec =
     Inv-loop
     μ-loop
     refusal-requires
-    lines-of-requires
+    items-of-requires
     loop-holds
     add-code
     mul-code

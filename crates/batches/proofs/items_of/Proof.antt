@@ -2,8 +2,8 @@
 -- Assumes nothing.
 use borrow.Author.Needs.{needs}
 use borrow.Author.Tests.{lt-ltb, le-ltb}
-use Rattle.batches.proofs.finalization.lines_of.Statement.{statement}
-use Rattle.batches.proofs.finalization.lines_of.Tie as tie
+use Rattle.batches.proofs.items_of.Statement.{statement}
+use Rattle.batches.proofs.items_of.Tie as tie
 
 returns : tie.Need-returns
 returns c = rw (lt-ltb _ _ (c .if1 .taken))
@@ -14,5 +14,5 @@ size-at-requires c κs = search needs
 returns-2 : tie.Need-returns-2
 returns-2 c = rw (le-ltb _ _ (c .before .if1 .left), c .size-at .ensures)
 
-pub lines-of-spec : {M : Type 1} → statement M
-lines-of-spec = tie.close (tie.spec returns size-at-requires returns-2)
+pub items-of-spec : {M : Type 1} → statement M
+items-of-spec = tie.close (tie.spec returns size-at-requires returns-2)
