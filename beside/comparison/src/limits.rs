@@ -2,26 +2,34 @@
 
 use std::fmt;
 
+use reference::{ABSENCES, CORE, DEPARTURES, DESTINATIONS, EDGES, ENTRIES, ROUTES};
+
+/// What has a limit, in the order of the table.
+#[derive(Clone, Copy)]
+enum Kind {
+    Entries,
+    Departures,
+    Pairs,
+    Routes,
+    Core,
+    Edges,
+    Destinations,
+    Absences,
+    Marks,
+}
+
+/// An entry has at most a mark and a pair of the index for each edge.
 const LIMITS: [(&str, u64); 9] = [
-    ("entries", 48),
-    ("departures", 32),
-    ("index pairs", 384),
-    ("routes", 8),
-    ("core shards", 8),
-    ("edges", 8),
-    ("destinations", 4),
-    ("absences", 8),
-    ("marks", 8),
+    ("entries", ENTRIES as u64),
+    ("departures", DEPARTURES as u64),
+    ("index pairs", ENTRIES as u64 * EDGES),
+    ("routes", ROUTES),
+    ("core shards", CORE),
+    ("edges", EDGES),
+    ("destinations", DESTINATIONS),
+    ("absences", ABSENCES as u64),
+    ("marks", EDGES),
 ];
-const ENTRIES: usize = 0;
-const DEPARTURES: usize = 1;
-const PAIRS: usize = 2;
-const ROUTES: usize = 3;
-const CORE: usize = 4;
-const EDGES: usize = 5;
-const DESTINATIONS: usize = 6;
-const ABSENCES: usize = 7;
-const MARKS: usize = 8;
 
 /// For each limit in how many dumps it was reached, and the most that any held.
 #[derive(Default)]
@@ -58,9 +66,9 @@ impl<'a> Walk<'a> {
         };
         walk.take(5);
         let [entries, departures, pairs] = [0; 3].map(|_: u64| walk.next());
-        walk.note(ENTRIES, entries);
-        walk.note(DEPARTURES, departures);
-        walk.note(PAIRS, pairs);
+        walk.note(Kind::Entries, entries);
+        walk.note(Kind::Departures, departures);
+        walk.note(Kind::Pairs, pairs);
         for _ in 0..entries {
             walk.entry();
         }
@@ -69,25 +77,26 @@ impl<'a> Walk<'a> {
 
     fn entry(&mut self) {
         let [routes, core, edges] = [0; 3].map(|_: u64| self.next());
-        self.note(ROUTES, routes);
-        self.note(CORE, core);
-        self.note(EDGES, edges);
+        self.note(Kind::Routes, routes);
+        self.note(Kind::Core, core);
+        self.note(Kind::Edges, edges);
         self.take(6 + routes + core + 3 * edges);
         let sizes = self.take(edges).to_vec();
         for size in &sizes {
-            self.note(DESTINATIONS, *size);
+            self.note(Kind::Destinations, *size);
         }
         self.take(sizes.iter().sum::<u64>() + 4);
         let absences = self.next();
-        self.note(ABSENCES, absences);
+        self.note(Kind::Absences, absences);
         self.take(2 * absences);
         let marks = self.next();
-        self.note(MARKS, marks);
+        self.note(Kind::Marks, marks);
         self.take(marks);
     }
 
-    fn note(&mut self, kind: usize, held: u64) {
-        self.most[kind] = self.most[kind].max(held);
+    fn note(&mut self, kind: Kind, held: u64) {
+        let most = &mut self.most[kind as usize];
+        *most = held.max(*most);
     }
 
     fn next(&mut self) -> u64 {

@@ -2,7 +2,7 @@
 -- Assumes nothing.
 use Prim.Native.Nat.{ℕ, _+_, _-_, _/_, _^_, _≤_, _<_}
 use mathlib.Core.Path.{_≡_, refl, sym, ap, _∙_}
-use mathlib.Core.Bool.{Bool, true, false, cond, not, _&&_, _||_, true≢false, false≢true}
+use mathlib.Core.Bool.{Bool, true, false, cond, _&&_, _||_, true≢false, false≢true}
 use mathlib.Core.List.{List, _∷_}
 use mathlib.Core.Option.{Option, none, some}
 use native.Mathlib.Omega.{arith}
@@ -16,7 +16,7 @@ use Rattle.lists.proofs.Distinct.{every-at}
 use Rattle.lists.proofs.Tests.{or-left, and-left, and-both, and-false}
 use Rattle.lists.proofs.Keep.{any-same}
 use Rattle.rules.specs.Numbers.{owns, isShard}
-use Rattle.rules.specs.Plain.{Departure, Entry, shardOf, isNamed}
+use Rattle.rules.specs.Plain.{isRemote, Departure, Entry, shardOf, isNamed}
 use Rattle.rules.specs.Prune.{readable, counting, earlier, countsBefore, answerable, isOfNaming, holds}
 use Rattle.rules.specs.Good.{GoodDeparture}
 use Rattle.types.proofs.Bits.{topped, owned}
@@ -111,10 +111,6 @@ module _ (now : ℕ) (d : Departure) (good : GoodDeparture d) where
         Best now (counting (keep p (d ∷ rest))) best lowest answers
     count-none true e t = rw (sym e) (old (counting (keep p rest)) best lowest answers h t)
     count-none false e t = rw (sym e) h
-
--- a remote route; that a list of them has one
-abbrev pub isRemote : ℕ → ℕ → Bool
-isRemote local route = not (owns local route)
 
 -- a departure over a remote route, as it is told, and that some route of an entry is one
 abbrev pub toldRemote : ℕ → ℕ → ℕ → ℕ → ℕ → ℕ → Bool

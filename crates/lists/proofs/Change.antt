@@ -6,7 +6,7 @@ use mathlib.Core.List.{List, [], _∷_}
 use mathlib.Core.Bool.{Bool, true, false, cond, not, _||_, true≢false}
 use mathlib.Core.Option.{some}
 use native.Mathlib.Omega.{arith}
-use borrow.Author.Tests.{eqb-true, ne-eqb, ltb-true}
+use borrow.Author.Tests.{eqb-true, eq-eqb, ne-eqb, ltb-true}
 use lib.Dec.{eqb, ltb}
 use lib.ListN.{length}
 use Rattle.lists.specs.Lists.{consIf, keep, Every, at, has, get, change, include, Above, Ascending, self}
@@ -23,6 +23,13 @@ module _ {A : Type 0} (key : A → ℕ) where
       go false q ih = ap (λ m. x ∷ m) (ih q)
 
   -- what holds of each holds after the one with the key is changed, if it holds of that one
+  -- nothing changes above the key; what is at the front of a rising list changes alone
+  pub change-above : (t : ℕ) (f : A → A) (l : List A) → Above key t l → change key t f l ≡ l
+  change-above t f l a = change-lacking t f l (above-lacks key t t l (omega arith) a)
+
+  pub change-front : (f : A → A) (x : A) (l : List A) → Above key (key x) l → change key (key x) f (x ∷ l) ≡ f x ∷ l
+  change-front f x l a = rw (eq-eqb (key x) (key x) refl) (ap (λ m. f x ∷ m) (change-above (key x) f l a))
+
   pub every-change : (P : A → Type 0) (t : ℕ) (f : A → A) (l : List A) → Ascending key l → ((x : A) → get key t l ≡ some x → P x → P (f x)) →
       Every P l → Every P (change key t f l)
   every-change P t f [] a c v = tt

@@ -7,7 +7,7 @@ use mathlib.Core.List.{List, [], _∷_, _++_, map, append-assoc, List·Memᴰ, L
 use native.Mathlib.Omega.{arith}
 use lib.ListN.{length}
 use Rattle.lists.specs.Lists.{consIf, keep, any, all, changeIf, Every, allOf, concatMap}
-use Rattle.lists.proofs.Tests.{or-left, or-right, or-assoc, or-false, or-same, and-left, and-right}
+use Rattle.lists.proofs.Tests.{or-left, or-right, or-assoc, or-false, or-same, and-left, and-right, and-both}
 
 module _ {A : Type 0} where
   -- a test that implies another sees nothing of what the other leaves out
@@ -130,6 +130,10 @@ module _ {A : Type 0} where
   pub every-all : (p : A → Bool) (l : List A) → all p l ≡ true → Every (λ x. p x ≡ true) l
   every-all p [] h = tt
   every-all p (x ∷ l) h = (and-left (p x) (all p l) h, every-all p l (and-right (p x) (all p l) h))
+
+  pub all-every : (p : A → Bool) (l : List A) → Every (λ x. p x ≡ true) l → all p l ≡ true
+  all-every p [] v = refl
+  all-every p (x ∷ l) v = and-both (p x) (all p l) (v .0) (all-every p l (v .1))
 
   pub every-append : (P : A → Type 0) (a b : List A) → Every P a → Every P b → Every P (a ++ b)
   every-append P [] b v w = w

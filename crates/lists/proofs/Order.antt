@@ -9,7 +9,7 @@ use borrow.Author.Tests.{ltb-true, ltb-false, eqb-true, eqb-false, eq-eqb, ne-eq
 use lib.Dec.{eqb, ltb}
 use lib.ListN.{length}
 use Rattle.lists.specs.Lists.{consIf, keep, any, changeIf, Every, at, has, include, includeAll, Above, Ascending, aboveAll, ascending}
-use Rattle.lists.proofs.Tests.{or-assoc, and-left, and-right}
+use Rattle.lists.proofs.Tests.{or-assoc, and-left, and-right, and-both}
 use Rattle.lists.proofs.Keep.{every-more}
 
 -- two numbers: the lower first, equal, or the higher first
@@ -168,6 +168,15 @@ module _ {A : Type 0} (key : A → ℕ) where
   ascending-test [] h = tt
   ascending-test (x ∷ l) h =
       (above-test (key x) l (and-left (aboveAll key (key x) l) (ascending key l) h), ascending-test l (and-right (aboveAll key (key x) l) (ascending key l) h))
+
+  -- and the other way
+  test-above : (k : ℕ) (l : List A) → Above key k l → aboveAll key k l ≡ true
+  test-above k [] a = refl
+  test-above k (x ∷ l) a = and-both (ltb k (key x)) (aboveAll key k l) (lt-ltb k (key x) (a .0)) (test-above k l (a .1))
+
+  pub test-ascending : (l : List A) → Ascending key l → ascending key l ≡ true
+  test-ascending [] a = refl
+  test-ascending (x ∷ l) a = and-both (aboveAll key (key x) l) (ascending key l) (test-above (key x) l (a .0)) (test-ascending l (a .1))
 
 -- a function that keeps the keys keeps the order
 module _ {A B : Type 0} (key : A → ℕ) (keyB : B → ℕ) (f : A → B) (c : (x : A) → keyB (f x) ≡ key x) where

@@ -1,5 +1,5 @@
--- Every good ledger is reached by calls, and every ledger that calls reach is good: what `Good` asks is exact. The running count first, then departures, then entries, each list
--- from its end, so that what comes goes to the front.
+-- Every good ledger is reached by calls, and every ledger that calls reach is good: what `Good` asks is exact. The running count
+-- first, then departures, then entries, each list from its end, so that what comes goes to the front.
 -- Assumes nothing.
 use Prim.Native.Nat.{ℕ, zero, suc, _+_, _-_, _≤_, _<_, min}
 use mathlib.Core.Path.{_≡_, refl, sym, ap, _∙_, subst}
@@ -10,11 +10,11 @@ use native.Mathlib.Omega.{arith}
 use borrow.Author.Tests.{lt-ltb, le-ltb, lt-leb, eq-eqb}
 use lib.Dec.{eqb, ltb, leb}
 use lib.ListN.{length}
-use Rattle.lists.specs.Lists.{Every, Above, Ascending, has, get, change, self}
+use Rattle.lists.specs.Lists.{Every, Above, Ascending, has, get, self}
 use Rattle.lists.proofs.Tests.{and-false}
 use Rattle.lists.proofs.Keep.{every-append}
 use Rattle.lists.proofs.Order.{above-lacks, include-below}
-use Rattle.lists.proofs.Change.{change-lacking}
+use Rattle.lists.proofs.Change.{change-above, change-front}
 use Rattle.rules.specs.Numbers.{isWord, isTime, isShard, isSpan, maxEntries, maxDepartures, maxAbsences, maxCount}
 use Rattle.rules.specs.Plain.{Part, whole, leg, core, remainder, Edge, Terms, Absence, Entry, Departure, Plain, transactionOf, absenceKey, shardOf, empty, withEntries, withDepartures, withRebuilt, issues, owes, isSettling}
 use Rattle.rules.specs.Calls.{Call, admission, absence, certify, abandonment, settled, returned, finalization, forget, terminal, step, run, making, stamped, terminalRefusal, afterTerminal, certifyRefusal, afterCertify, absenceRefusal, afterAbsence, abandonmentRefusal, afterAbandonment, afterMark, afterFinalization, admissionRefusal, afterAdmission, afterForget}
@@ -46,13 +46,8 @@ and-then {p} {q} {r} f g =
     }
 
 -- a call that is not refused
-unrefused : (n : ℕ) (p : Plain) (o : Outcome) → n ≡ 0 → unless n p o .ledger ≡ o .ledger
-unrefused n p o e = rw e
-
--- what is at the front of a rising list is changed alone
-module _ {A : Type 0} (key : A → ℕ) where
-  change-front : (f : A → A) (x : A) (l : List A) → Above key (key x) l → change key (key x) f (x ∷ l) ≡ f x ∷ l
-  change-front f x l a = rw (eq-eqb (key x) (key x) refl) (ap (λ m. f x ∷ m) (change-lacking key (key x) f l (above-lacks key (key x) (key x) l (omega arith) a)))
+accepted : (n : ℕ) (p : Plain) (o : Outcome) → n ≡ 0 → unless n p o .ledger ≡ o .ledger
+accepted n p o e = rw e
 
 -- Departures.
 module _ (p : Plain) (ds : List Departure) (shard cut : ℕ) (low : Above shardOf shard ds) (few : length ds < maxDepartures)
@@ -65,12 +60,12 @@ module _ (p : Plain) (ds : List Departure) (shard cut : ℕ) (low : Above shardO
   unfolding afterTerminal
   departs none g =
       by (terminal shard cut 0 0) tt
-      (unrefused (terminalRefusal shard cut 0 0 (withDepartures ds p)) _ _ (new 0 0 refl refl)
+      (accepted (terminalRefusal shard cut 0 0 (withDepartures ds p)) _ _ (new 0 0 refl refl)
       ∙ ap (λ m. withDepartures m p) (include-below shardOf (record { shard = shard; cut = cut; stamp = none }) ds low))
   departs (some until) g =
       let d : Departure = record { shard = shard; cut = cut; stamp = none } in
       by (terminal shard cut 1 until) tt
-      (unrefused (terminalRefusal shard cut 1 until (withDepartures ds p)) _ _ (new 1 until refl g)
+      (accepted (terminalRefusal shard cut 1 until (withDepartures ds p)) _ _ (new 1 until refl g)
       ∙ ap (λ m. withDepartures m p) (rw (include-below shardOf d ds low) (change-front shardOf (stamped until) d ds low)))
 
 all-depart : (p : Plain) (ds : List Departure) → length ds ≤ maxDepartures → Every GoodDeparture ds → Ascending shardOf ds → Leads (withDepartures [] p) (withDepartures ds p)
@@ -103,15 +98,12 @@ module _ (p : Plain) (t : Terms) (es : List Entry) (low : Above transactionOf (t
   found : (part : Part) (code naming : ℕ) (cs : List Absence) (ms : List ℕ) (b : Bool) → get transactionOf tx (made part code naming cs ms b ∷ es) ≡ some (made part code naming cs ms b)
   found part code naming cs ms b = rw (eq-eqb tx tx refl)
 
-  others-stay : (f : Entry → Entry) → change transactionOf tx f es ≡ es
-  others-stay f = change-lacking transactionOf tx f es (above-lacks transactionOf tx tx es (omega arith) low)
-
   -- certify
   certifies : (part : Part) (code : ℕ) → code ≤ 2 → Leads (front (made part 0 0 [] [] false)) (front (made part code 0 [] [] false))
   unfolding afterCertify
   certifies part code h =
       by (certify tx code) tt
-      (unrefused (certifyRefusal code) _ _ (rw (le-ltb 2 code h))
+      (accepted (certifyRefusal code) _ _ (rw (le-ltb 2 code h))
       ∙ ap (λ m. withEntries m p) (change-front transactionOf (certified code) (made part 0 0 [] [] false) es low ∙ ap (λ n. made part n 0 [] [] false ∷ es) (greater code)))
     where
       greater : (code : ℕ) → cond (ltb 0 code) code 0 ≡ code
@@ -125,7 +117,7 @@ module _ (p : Plain) (t : Terms) (es : List Entry) (low : Above transactionOf (t
     unfolding afterAbsence
     reads a cs g b n =
         by (absence tx (a .shard) (a .key)) (g .key)
-        (unrefused (absenceRefusal tx a (front (made part code naming cs [] false))) _ _
+        (accepted (absenceRefusal tx a (front (made part code naming cs [] false))) _ _
         (rw (g .shard, found part code naming cs [] false, lt-leb maxAbsences (length cs) n, and-false (not (isRead a (made part code naming cs [] false)))))
         ∙ ap (λ m. withEntries m p) (change-front transactionOf (readAbsent a) (made part code naming cs [] false) es low ∙ ap (λ m. made part code naming m [] false ∷ es) (include-below absenceKey a cs b)))
 
@@ -147,9 +139,9 @@ module _ (p : Plain) (t : Terms) (es : List Entry) (low : Above transactionOf (t
     names isGood zero g = stay _
     names isGood (suc n) g =
         by (abandonment (groups (suc n))) (refl, (shard-word (suc n) g, (refl, (isGood, (refl, (refl, (refl, (refl, tt))))))))
-        (unrefused (abandonmentRefusal (groups (suc n)) (front (made part code 0 [] [] false))) _ _
+        (accepted (abandonmentRefusal (groups (suc n)) (front (made part code 0 [] [] false))) _ _
         (rw (g, eq-eqb tx tx refl, le-ltb (maxEntries - suc (length es)) 0 (omega arith)))
-        ∙ rw (eq-eqb tx tx refl, same-count) (ap (λ m. withEntries (made part code (suc n) [] [] false ∷ m) p) (others-stay (withNaming (suc n)))))
+        ∙ rw (eq-eqb tx tx refl, same-count) (ap (λ m. withEntries (made part code (suc n) [] [] false ∷ m) p) (change-above transactionOf tx (withNaming (suc n)) es low)))
 
   -- records are marked, from the last
   module _ (part : Part) (code naming : ℕ) (cs : List Absence) (isHeld : isSettling part ≡ true) where
@@ -187,7 +179,7 @@ module _ (p : Plain) (t : Terms) (es : List Entry) (low : Above transactionOf (t
     unfolding afterAdmission
     comes d b part e =
         by (admission (admissionWords d t)) (words-words d t g b)
-        (unrefused (admissionRefusal (admissionWords d t) (withEntries es p)) _ _
+        (accepted (admissionRefusal (admissionWords d t) (withEntries es p)) _ _
         (rw (words-formed d t g b, words-timed d t g b, words-placed d t g b, terms-read d t, above-lacks transactionOf tx tx es (omega arith) low, le-ltb (maxEntries - length es) 1 (omega arith)))
         ∙ ap (λ m. withEntries m p) (rw e (include-below transactionOf (made part 0 0 [] [] false) es low)))
 

@@ -2,34 +2,21 @@
 -- Assumes nothing.
 use Prim.Native.Nat.{ℕ, _+_, _*_, _^_, _≤_}
 use mathlib.Core.Path.{_≡_, refl, sym, ap, _∙_}
-use mathlib.Core.Bool.{Bool, true}
+use mathlib.Core.Bool.{true}
 use mathlib.Core.List.{List, [], _∷_, _++_, map}
 use native.Mathlib.Omega.{arith}
 use borrow.Author.Tests.{ltb-true, leb-true, lt-ltb, le-leb, eq-eqb}
 use lib.Dec.{ltb, leb}
 use lib.ListN.{length, take, drop, length-map, length-append}
 use lib.Seq.{take-at, take-append-seam, drop-append-seam, drop-drop}
-use Rattle.lists.specs.Lists.{all, total, concatMap, zipBy, self, part, cut, Every, Above, Ascending, aboveAll, ascending}
-use Rattle.lists.proofs.Tests.{and-both, and-right}
-use Rattle.lists.proofs.Keep.{every-append, every-map, every-more}
+use Rattle.lists.specs.Lists.{total, concatMap, zipBy, self, part, cut, Every, ascending}
+use Rattle.lists.proofs.Tests.{and-right}
+use Rattle.lists.proofs.Keep.{all-every, every-append, every-map, every-more}
+use Rattle.lists.proofs.Order.{test-ascending}
 use Rattle.rules.specs.Numbers.{isWord, isTime, isShard, maxRoutes, maxCore, maxEdges, maxDestinations}
 use Rattle.rules.specs.Plain.{Edge, Terms}
 use Rattle.rules.specs.Words.{edge, with, sizes, kinds, froms, coreIn, destinations, destinationsAt, edgesIn, admissionTerms, admissionFormed, admissionTimed, admissionPlaced}
 use Rattle.rules.specs.Good.{Holds, GoodEdge, GoodTerms}
-
--- what passes each by each passes all
-pub all-every : {A : Type 0} (p : A → Bool) (l : List A) → Every (λ x. p x ≡ true) l → all p l ≡ true
-all-every p [] v = refl
-all-every p (x ∷ l) v = and-both (p x) (all p l) (v .0) (all-every p l (v .1))
-
-module _ {A : Type 0} (key : A → ℕ) where
-  above-tested : (k : ℕ) (l : List A) → Above key k l → aboveAll key k l ≡ true
-  above-tested k [] a = refl
-  above-tested k (x ∷ l) a = and-both (ltb k (key x)) (aboveAll key k l) (lt-ltb k (key x) (a .0)) (above-tested k l (a .1))
-
-  rising-tested : (l : List A) → Ascending key l → ascending key l ≡ true
-  rising-tested [] a = refl
-  rising-tested (x ∷ l) a = and-both (aboveAll key (key x) l) (ascending key l) (above-tested (key x) l (a .0)) (rising-tested l (a .1))
 
 -- small numbers, times and shards are words
 small-word : (n : ℕ) → n ≤ 8 → isWord n ≡ true
@@ -76,7 +63,7 @@ kinds-within : (gs : List Edge) → Every GoodEdge gs → Every (λ g. leb (g .k
 kinds-within gs v = every-more GoodEdge (λ g. leb (g .kind) 1 ≡ true) (λ g x. le-leb (g .kind) 1 (x .kind)) gs v
 
 rising-to : (gs : List Edge) → Every GoodEdge gs → Every (λ g. ascending self (g .to) ≡ true) gs
-rising-to gs v = every-more GoodEdge (λ g. ascending self (g .to) ≡ true) (λ g x. rising-tested self (g .to) (x .rising)) gs v
+rising-to gs v = every-more GoodEdge (λ g. ascending self (g .to) ≡ true) (λ g x. test-ascending self (g .to) (x .rising)) gs v
 
 from-shards : (gs : List Edge) → Every GoodEdge gs → Every (λ g. isShard (g .from) ≡ true) gs
 from-shards gs v = every-more GoodEdge (λ g. isShard (g .from) ≡ true) (λ g x. x .from) gs v
@@ -230,7 +217,7 @@ module _ (d : ℕ) (t : Terms) where
           kinds-read,
           all-every (λ n. leb n 1) (map kindOf gs) (every-map kindOf (λ n. leb n 1 ≡ true) gs (kinds-within gs (g .edges))),
           core-read,
-          rising-tested self (t .coreShards) (g .rising),
+          test-ascending self (t .coreShards) (g .rising),
           to-rest,
           cut-joined gs,
           all-every (ascending self) (map toOf gs) (every-map toOf (λ m. ascending self m ≡ true) gs (rising-to gs (g .edges))),

@@ -97,7 +97,7 @@ pub record Good (p : Plain) : Type 0 where
   pub departureOrder : Ascending shardOf (p .departures)
   pub rebuilt : p .rebuilt ≤ maxCount
 
--- the numbers of a call are words
+-- of a call's numbers, those that the ledger keeps and the table does not check are words
 abbrev pub OfWords : Call → Type 0
 OfWords (admission ws) = Every (Holds isWord) ws
 OfWords (absence t shard key) = isWord key ≡ true

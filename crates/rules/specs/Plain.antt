@@ -162,5 +162,8 @@ abbrev pub isCovered : Entry → Bool
 isCovered e = isNamed e || filled (e .absences)
 
 -- a remote route is one that local does not own
+abbrev pub isRemote : ℕ → ℕ → Bool
+isRemote local route = not (owns local route)
+
 abbrev pub remote : ℕ → Terms → List ℕ
-remote local t = keep (λ r. not (owns local r)) (t .routes)
+remote local t = keep (isRemote local) (t .routes)

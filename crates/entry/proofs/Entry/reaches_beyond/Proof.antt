@@ -1,21 +1,18 @@
 -- Each route that local owns leaves the test of the routes still to come.
 -- Assumes nothing.
-use Prim.Native.Nat.{ℕ, _-_, _≤_}
+use Prim.Native.Nat.{_-_, _≤_}
 use mathlib.Core.Path.{_≡_, sym, ap, _∙_}
-use mathlib.Core.Bool.{Bool, not}
+use mathlib.Core.Bool.{not}
 use native.Mathlib.Omega.{arith}
 use lib.ListN.{length, drop, take}
 use Rattle.lists.specs.Lists.{any}
 use Rattle.lists.proofs.Loops.{any-hit, any-miss, any-end}
 use Rattle.lists.proofs.Listing.{filled-kept}
-use Rattle.rules.specs.Numbers.{owns}
+use Rattle.rules.specs.Plain.{isRemote}
 use Rattle.entry.specs.Entry.{plainEntry}
 use borrow.Author.Needs.{needs}
 use Rattle.entry.proofs.Entry.reaches_beyond.Statement.{statement}
 use Rattle.entry.proofs.Entry.reaches_beyond.Tie as tie
-
-abbrev isRemote : ℕ → ℕ → Bool
-isRemote local r = not (owns local r)
 
 abbrev Inv-loop : tie.InvT-loop
 Inv-loop local routes n i₀ i =

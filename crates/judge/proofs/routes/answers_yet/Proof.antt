@@ -10,10 +10,10 @@ use Rattle.lists.specs.Lists.{any, keep}
 use Rattle.lists.proofs.Distinct.{every-at}
 use Rattle.lists.proofs.Tests.{and-false, and-both}
 use Rattle.lists.proofs.Loops.{any-hit, any-miss, any-end}
-use Rattle.rules.specs.Plain.{Departure}
+use Rattle.rules.specs.Plain.{Departure, isRemote}
 use Rattle.rules.specs.Prune.{counting, answerable}
 use Rattle.judge.specs.View.{view, Shows}
-use Rattle.judge.proofs.Seeing.{Best, overAt, isRemote, answered, none-yet, turn-won, turn-lost, gone-through, said-answers}
+use Rattle.judge.proofs.Seeing.{Best, overAt, answered, none-yet, turn-won, turn-lost, gone-through, said-answers}
 use borrow.Author.Needs.{needs}
 use Rattle.judge.proofs.routes.answers_yet.Statement.{statement}
 use Rattle.judge.proofs.routes.answers_yet.Tie as tie

@@ -2,7 +2,8 @@
 -- Assumes nothing.
 use mathlib.Core.Path.{ap}
 use mathlib.Core.Bool.{not}
-use Rattle.judge.proofs.Seeing.{and-then, and-not, isRemote, told}
+use Rattle.judge.proofs.Seeing.{and-then, and-not, told}
+use Rattle.rules.specs.Plain.{isRemote}
 use borrow.Author.Needs.{needs}
 use Rattle.judge.proofs.routes.is_over_remote.Statement.{statement}
 use Rattle.judge.proofs.routes.is_over_remote.Tie as tie
