@@ -7,7 +7,7 @@ ghost use lib.ListN.{take};
 ghost use Rattle.lists.specs.Lists.{all, has, include, self as itself, filled, zipBy};
 ghost use Rattle.lists.specs.Arrays.{rank as rankOf};
 ghost use Rattle.rules.specs.Numbers.{recordKey, isShard};
-ghost use Rattle.rules.specs.Plain.{isCore, isLeg, isSettling, isCovered, issued, issues, owes, remote, remainder, absenceKey};
+ghost use Rattle.rules.specs.Plain.{partNumber, isCore, isLeg, isSettling, isCovered, issued, issues, owes, remote, remainder, absenceKey};
 ghost use Rattle.rules.specs.Entries.{certified, withNaming, withPart, withMarks, marked, readAbsent, isRead, isClosed};
 ghost use Rattle.rules.specs.Good.{GoodEntry};
 ghost use Rattle.entry.specs.Entry.{plainEntry, plainPart, absence, below, lower, isMarked, Fits, Means, Opened, RoomForAbsence, RoomForMark};
@@ -143,6 +143,18 @@ fn opened(items: [u64; 8], n: usize, k: usize, x: u64) -> [u64; 8]
 }
 
 impl Part {
+    // The number that the paper gives it.
+    pub fn number(self) -> u64
+        ensures { λ r. ⌜ r ≡ partNumber (plainPart self) ⌝ }
+    {
+        match self {
+            Part::Whole => 0,
+            Part::Leg => 1,
+            Part::Core => 2,
+            Part::Remainder => 3,
+        }
+    }
+
     pub fn is_core(self) -> bool
         ensures { λ r. ⌜ r ≡ isCore (plainPart self) ⌝ }
     {

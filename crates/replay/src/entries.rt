@@ -6,7 +6,6 @@ ghost use Rattle.entry.specs.Entry.{Fits};
 use crate::dump::put_pairs;
 use crate::replies::put_word;
 use entry::Entry;
-use entry::Part;
 use script::Out;
 use script::put_words;
 
@@ -15,21 +14,12 @@ pub fn put_entry(buf: &mut [u8; 65536], out: Out, e: Entry) -> Out
     ensures { λ r. ⌜ r .at ≤ 65536 ⌝ }
 {
     let part = e.part;
-    let code = code_of(part);
+    let code = part.number();
     let mut put = put_terms(buf, out, e, code);
     put = put_edges(buf, put, e);
     put = put_destinations(buf, put, e);
     put = put_standing(buf, put, e, code);
     put_marks(buf, put, e)
-}
-
-fn code_of(part: Part) -> u64 {
-    match part {
-        Part::Whole => 0,
-        Part::Leg => 1,
-        Part::Core => 2,
-        Part::Remainder => 3,
-    }
 }
 
 // The admission's words up to the edges.

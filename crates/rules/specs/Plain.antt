@@ -7,9 +7,16 @@ use lib.Dec.{eqb, ltb}
 use Rattle.lists.specs.Lists.{keep, any, filled, has, get, self}
 use Rattle.rules.specs.Numbers.{recordKey, owns}
 
--- part: 0 whole, 1 leg, 2 core, 3 remainder
+-- what of a transaction an entry stands for
 pub data Part : Type 0 where
   whole leg core remainder : Part
+
+-- the number that the paper gives each part
+abbrev pub partNumber : Part → ℕ
+partNumber whole = 0
+partNumber leg = 1
+partNumber core = 2
+partNumber remainder = 3
 
 abbrev pub isCore : Part → Bool
 isCore core = true
