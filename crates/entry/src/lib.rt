@@ -53,41 +53,41 @@ pub struct Entry {
 }
 
 // Whether an edge from this shard has this id's record key.
-pub fn is_issue(from: u64, id: u64, local: Shard, r: RecordKey) -> bool
-    ensures { λ x. ⌜ x ≡ eqb from (local .0) && eqb (recordKey id) (r .0) ⌝ }
+pub fn is_issue(from: Shard, id: u64, local: Shard, r: RecordKey) -> bool
+    ensures { λ x. ⌜ x ≡ eqb (from .0) (local .0) && eqb (recordKey id) (r .0) ⌝ }
 {
     let key = types::record_key(id);
-    from == local.0 && key.0 == r.0
+    from.0 == local.0 && key.0 == r.0
 }
 
 // Whether an edge is owed from this shard.
-fn is_debt(from: u64, kind: u8, local: Shard) -> bool
-    ensures { λ r. ⌜ r ≡ eqb from (local .0) && eqb kind 1 ⌝ }
+fn is_debt(from: Shard, kind: u8, local: Shard) -> bool
+    ensures { λ r. ⌜ r ≡ eqb (from .0) (local .0) && eqb kind 1 ⌝ }
 {
-    from == local.0 && kind == 1
+    from.0 == local.0 && kind == 1
 }
 
 // Absences by shard and then key, as their joined keys go.
-fn is_same(s: u64, k: u64, shard: u64, key: u64) -> bool
-    ensures { λ r. ⌜ r ≡ eqb (absenceKey (absence s k)) (absenceKey (absence shard key)) ⌝ }
+fn is_same(s: Shard, k: u64, shard: Shard, key: u64) -> bool
+    ensures { λ r. ⌜ r ≡ eqb (absenceKey (absence (s .0) k)) (absenceKey (absence (shard .0) key)) ⌝ }
 {
-    s == shard && k == key
+    s.0 == shard.0 && k == key
 }
 
-fn is_lower(s: u64, k: u64, shard: u64, key: u64) -> bool
-    ensures { λ r. ⌜ r ≡ ltb (absenceKey (absence s k)) (absenceKey (absence shard key)) ⌝ }
+fn is_lower(s: Shard, k: u64, shard: Shard, key: u64) -> bool
+    ensures { λ r. ⌜ r ≡ ltb (absenceKey (absence (s .0) k)) (absenceKey (absence (shard .0) key)) ⌝ }
 {
-    s < shard || s == shard && k < key
+    s.0 < shard.0 || s.0 == shard.0 && k < key
 }
 
-// Whether x stands among the first n.
-fn stands(a: [u64; 8], n: usize, x: u64) -> bool
+// Whether r stands among the first n marks.
+fn stands(marks: [u64; 8], n: usize, r: RecordKey) -> bool
     requires { ⌜ n ≤ 8 ⌝ }
-    ensures { λ r. ⌜ r ≡ has itself x (take n a) ⌝ }
+    ensures { λ x. ⌜ x ≡ has itself (r .0) (take n marks) ⌝ }
 {
     let mut i: usize = 0;
     while i < n {
-        if a[i] == x {
+        if marks[i] == r.0 {
             return true;
         }
         i += 1;
@@ -95,14 +95,14 @@ fn stands(a: [u64; 8], n: usize, x: u64) -> bool
     false
 }
 
-// How many of the first n, from the front, are lower than x.
-fn rank(a: [u64; 8], n: usize, x: u64) -> usize
+// How many of the first n marks, from the front, are lower than r.
+fn rank(marks: [u64; 8], n: usize, r: RecordKey) -> usize
     requires { ⌜ n ≤ 8 ⌝ }
-    ensures { λ r. ⌜ r ≡ rankOf (lower x) (take n a) ⌝ }
+    ensures { λ x. ⌜ x ≡ rankOf (lower (r .0)) (take n marks) ⌝ }
 {
     let mut i: usize = 0;
     while i < n {
-        if a[i] >= x {
+        if marks[i] >= r.0 {
             return i;
         }
         i += 1;
@@ -111,13 +111,13 @@ fn rank(a: [u64; 8], n: usize, x: u64) -> usize
 }
 
 // How many of the first n absences, from the front, are lower than this one.
-fn rank_absence(shards: [u64; 8], keys: [u64; 8], n: usize, shard: u64, key: u64) -> usize
+fn rank_absence(shards: [u64; 8], keys: [u64; 8], n: usize, shard: Shard, key: u64) -> usize
     requires { ⌜ n ≤ 8 ⌝ }
-    ensures { λ r. ⌜ r ≡ rankOf (below (absence shard key)) (zipBy absence (take n shards) (take n keys)) ⌝ }
+    ensures { λ r. ⌜ r ≡ rankOf (below (absence (shard .0) key)) (zipBy absence (take n shards) (take n keys)) ⌝ }
 {
     let mut i: usize = 0;
     while i < n {
-        if !is_lower(shards[i], keys[i], shard, key) {
+        if !is_lower(Shard(shards[i]), keys[i], shard, key) {
             return i;
         }
         i += 1;
@@ -261,7 +261,7 @@ impl Entry {
         let n = self.edges_len as usize;
         let mut i: usize = 0;
         while i < n {
-            if is_issue(self.froms[i], self.ids[i], local, r) {
+            if is_issue(Shard(self.froms[i]), self.ids[i], local, r) {
                 return true;
             }
             i += 1;
@@ -277,7 +277,7 @@ impl Entry {
         let n = self.edges_len as usize;
         let mut i: usize = 0;
         while i < n {
-            if is_debt(self.froms[i], self.kinds[i], local) {
+            if is_debt(Shard(self.froms[i]), self.kinds[i], local) {
                 return true;
             }
             i += 1;
@@ -311,7 +311,12 @@ impl Entry {
         let n = self.absences_len as usize;
         let mut i: usize = 0;
         while i < n {
-            if is_same(self.absent_shards[i], self.absent_keys[i], shard.0, key) {
+            if is_same(
+                Shard(self.absent_shards[i]),
+                self.absent_keys[i],
+                shard,
+                key,
+            ) {
                 return true;
             }
             i += 1;
@@ -330,7 +335,7 @@ impl Entry {
         let n = self.absences_len as usize;
         let shards = self.absent_shards;
         let keys = self.absent_keys;
-        let k = rank_absence(shards, keys, n, shard.0, key);
+        let k = rank_absence(shards, keys, n, shard, key);
         let s = opened(shards, n, k, shard.0);
         let t = opened(keys, n, k, key);
         let mut e = self;
@@ -347,7 +352,7 @@ impl Entry {
     {
         let n = self.marks_len as usize;
         let marks = self.marks;
-        stands(marks, n, r.0)
+        stands(marks, n, r)
     }
 
     // The entry with this record marked, whatever its part.
@@ -359,10 +364,10 @@ impl Entry {
         let marks = self.marks;
         let mut e = self;
         e.returned = self.returned || is_return;
-        if stands(marks, n, r.0) {
+        if stands(marks, n, r) {
             return e;
         }
-        let k = rank(marks, n, r.0);
+        let k = rank(marks, n, r);
         let m = opened(marks, n, k, r.0);
         e.marks = m;
         e.marks_len += 1;
@@ -444,12 +449,12 @@ impl Entry {
     }
 
     // Whether an edge starts from local and its record is not marked.
-    fn is_open(self, from: u64, id: u64, local: Shard) -> bool
+    fn is_open(self, from: Shard, id: u64, local: Shard) -> bool
         requires { ⌜ Fits self ⌝ }
-        ensures { λ r. ⌜ r ≡ eqb from (local .0) && not (has itself (recordKey id) (plainEntry self .marks)) ⌝ }
+        ensures { λ r. ⌜ r ≡ eqb (from .0) (local .0) && not (has itself (recordKey id) (plainEntry self .marks)) ⌝ }
     {
         let key = types::record_key(id);
-        from == local.0 && !self.has_mark(key)
+        from.0 == local.0 && !self.has_mark(key)
     }
 
     // Whether each record that it issued is marked.
@@ -462,7 +467,7 @@ impl Entry {
         let n = self.edges_len as usize;
         let mut i: usize = 0;
         while i < n {
-            if self.is_open(froms[i], ids[i], local) {
+            if self.is_open(Shard(froms[i]), ids[i], local) {
                 return false;
             }
             i += 1;

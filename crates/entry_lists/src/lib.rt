@@ -42,14 +42,14 @@ fn put_questions(e: Entry, local: Shard, from: usize, words: &mut [u64; 1920]) -
     let mut count = from;
     let mut i: usize = 0;
     while i < n {
-        let shard = core[i];
-        if shard == local.0 {
+        let shard = Shard(core[i]);
+        if shard.0 == local.0 {
             i += 1;
         } else {
             let at = 5 * count;
             words[at] = e.tx.0;
-            words[at + 1] = shard;
-            words[at + 2] = types::cell_key(e.tx, e.end, Shard(shard));
+            words[at + 1] = shard.0;
+            words[at + 2] = types::cell_key(e.tx, e.end, shard);
             words[at + 3] = e.at.0;
             words[at + 4] = e.end.0;
             count += 1;
@@ -149,10 +149,10 @@ pub fn past_deadline(ledger: Ledger, time: Time, lent: &mut [u64]) -> Told
 }
 
 // Whether an edge is from local and of this very id.
-fn is_crossing(from: u64, held: u64, local: Shard, id: u64) -> bool
-    ensures { λ r. ⌜ r ≡ eqb from (local .0) && eqb held id ⌝ }
+fn is_crossing(from: Shard, held: u64, local: Shard, id: u64) -> bool
+    ensures { λ r. ⌜ r ≡ eqb (from .0) (local .0) && eqb held id ⌝ }
 {
-    from == local.0 && held == id
+    from.0 == local.0 && held == id
 }
 
 // Whether an edge from local has this very id. The two arrays are taken out of the entry first, so that the entry needs no copy.
@@ -165,7 +165,7 @@ fn issues_id(e: Entry, local: Shard, id: u64) -> bool
     let ids = e.ids;
     let mut i: usize = 0;
     while i < n {
-        if is_crossing(froms[i], ids[i], local, id) {
+        if is_crossing(Shard(froms[i]), ids[i], local, id) {
             return true;
         }
         i += 1;

@@ -26,32 +26,32 @@ fn led_by_one(route: u64) -> u64
 }
 
 // Whether a departure is over a route: its shard owns it, and its cut is after the anchor.
-fn is_over(led: u64, shard: u64, zeros: u32, cut: u64, anchor: u64) -> bool
+fn is_over(led: u64, shard: Shard, zeros: u32, cut: Time, anchor: Time) -> bool
     requires { ⌜ zeros < 64 ⌝ }
-    ensures { λ r. ⌜ r ≡ (eqb (led / 2 ^ zeros) shard && ltb anchor cut) ⌝ }
+    ensures { λ r. ⌜ r ≡ (eqb (led / 2 ^ zeros) (shard .0) && ltb (anchor .0) (cut .0)) ⌝ }
 {
-    (led >> zeros) == shard && anchor < cut
+    (led >> zeros) == shard.0 && anchor.0 < cut.0
 }
 
 // The smaller cut counts, the lower shard on equal cuts.
-fn counts_before(cut: u64, shard: u64, best: u64, lowest: u64) -> bool
-    ensures { λ r. ⌜ r ≡ (ltb cut best || (eqb cut best && leb shard lowest)) ⌝ }
+fn counts_before(cut: Time, shard: Shard, best: Time, lowest: Shard) -> bool
+    ensures { λ r. ⌜ r ≡ (ltb (cut .0) (best .0) || (eqb (cut .0) (best .0) && leb (shard .0) (lowest .0))) ⌝ }
 {
-    cut < best || (cut == best && shard <= lowest)
+    cut.0 < best.0 || (cut.0 == best.0 && shard.0 <= lowest.0)
 }
 
 // Whether a departure is over the route and counts before the best so far.
 fn counts_over(
     led: u64,
-    shard: u64,
+    shard: Shard,
     zeros: u32,
-    cut: u64,
-    anchor: u64,
-    best: u64,
-    lowest: u64,
+    cut: Time,
+    anchor: Time,
+    best: Time,
+    lowest: Shard,
 ) -> bool
     requires { ⌜ zeros < 64 ⌝ }
-    ensures { λ r. ⌜ r ≡ ((eqb (led / 2 ^ zeros) shard && ltb anchor cut) && (ltb cut best || (eqb cut best && leb shard lowest))) ⌝ }
+    ensures { λ r. ⌜ r ≡ ((eqb (led / 2 ^ zeros) (shard .0) && ltb (anchor .0) (cut .0)) && (ltb (cut .0) (best .0) || (eqb (cut .0) (best .0) && leb (shard .0) (lowest .0)))) ⌝ }
 {
     is_over(led, shard, zeros, cut, anchor) && counts_before(cut, shard, best, lowest)
 }
@@ -83,16 +83,16 @@ pub fn answers_yet<'a>(
             continue 'routes;
         }
         let led = led_by_one(route);
-        let mut best = TOP;
-        let mut lowest = TOP;
+        let mut best = Time(TOP);
+        let mut lowest = Shard(TOP);
         let mut answers = true;
         let mut j = len;
         while 0 < j {
             j -= 1;
-            let shard = shards[j];
-            let cut = cuts[j];
+            let shard = Shard(shards[j]);
+            let cut = Time(cuts[j]);
             let answer = readable[j];
-            if counts_over(led, shard, zeros[j], cut, anchor.0, best, lowest) {
+            if counts_over(led, shard, zeros[j], cut, anchor, best, lowest) {
                 best = cut;
                 lowest = shard;
                 answers = answer;
@@ -108,10 +108,17 @@ pub fn answers_yet<'a>(
 }
 
 // Whether a departure is over a route that local does not own.
-fn is_over_remote(route: u64, local: Shard, shard: u64, zeros: u32, cut: u64, anchor: u64) -> bool
+fn is_over_remote(
+    route: u64,
+    local: Shard,
+    shard: Shard,
+    zeros: u32,
+    cut: Time,
+    anchor: Time,
+) -> bool
     requires { ⌜ zeros < 64 ⌝ }
     requires { ⌜ isShard (local .0) ≡ true ⌝ }
-    ensures { λ r. ⌜ r ≡ (not (owns (local .0) route) && (eqb ((route / 2 + 2 ^ 63) / 2 ^ zeros) shard && ltb anchor cut)) ⌝ }
+    ensures { λ r. ⌜ r ≡ (not (owns (local .0) route) && (eqb ((route / 2 + 2 ^ 63) / 2 ^ zeros) (shard .0) && ltb (anchor .0) (cut .0))) ⌝ }
 {
     !local.owns(route) && is_over(led_by_one(route), shard, zeros, cut, anchor)
 }
@@ -122,18 +129,18 @@ fn covers_some(
     n: usize,
     anchor: Time,
     local: Shard,
-    shard: u64,
+    shard: Shard,
     zeros: u32,
-    cut: u64,
+    cut: Time,
 ) -> bool
     requires { ⌜ n ≤ 8 ⌝ }
     requires { ⌜ isShard (local .0) ≡ true ⌝ }
     requires { ⌜ zeros < 64 ⌝ }
-    ensures { λ r. ⌜ ((d : plain.Departure) (e : plain.Entry) → isShard (d .shard) ≡ true → shard ≡ d .shard → zeros ≡ zerosOf d → cut ≡ d .cut → Asks (take n routes) (anchor .0) e → r ≡ coversSome (local .0) d e) ⌝ }
+    ensures { λ r. ⌜ ((d : plain.Departure) (e : plain.Entry) → isShard (d .shard) ≡ true → shard .0 ≡ d .shard → zeros ≡ zerosOf d → cut .0 ≡ d .cut → Asks (take n routes) (anchor .0) e → r ≡ coversSome (local .0) d e) ⌝ }
 {
     let mut i: usize = 0;
     while i < n {
-        if is_over_remote(routes[i], local, shard, zeros, cut, anchor.0) {
+        if is_over_remote(routes[i], local, shard, zeros, cut, anchor) {
             return true;
         }
         i += 1;
@@ -142,13 +149,13 @@ fn covers_some(
 }
 
 // Whether an entry needs a departure: its shard names the entry, or it is over a remote route of it.
-pub fn needs(e: Entry, local: Shard, shard: u64, zeros: u32, cut: u64) -> bool
+pub fn needs(e: Entry, local: Shard, shard: Shard, zeros: u32, cut: Time) -> bool
     requires { ⌜ Fits e ⌝ }
     requires { ⌜ isShard (local .0) ≡ true ⌝ }
     requires { ⌜ zeros < 64 ⌝ }
-    ensures { λ r. ⌜ ((d : plain.Departure) → isShard (d .shard) ≡ true → shard ≡ d .shard → zeros ≡ zerosOf d → cut ≡ d .cut → r ≡ holds (local .0) d (plainEntry e)) ⌝ }
+    ensures { λ r. ⌜ ((d : plain.Departure) → isShard (d .shard) ≡ true → shard .0 ≡ d .shard → zeros ≡ zerosOf d → cut .0 ≡ d .cut → r ≡ holds (local .0) d (plainEntry e)) ⌝ }
 {
-    if e.naming.0 == shard {
+    if e.naming.0 == shard.0 {
         return true;
     }
     let routes = e.routes;

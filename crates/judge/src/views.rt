@@ -65,10 +65,10 @@ impl View {
 }
 
 // Whether a departure is of the naming shard and readable.
-fn is_named_open(naming: u64, shard: u64, readable: bool) -> bool
-    ensures { λ r. ⌜ r ≡ (eqb naming shard && readable) ⌝ }
+fn is_named_open(naming: Shard, shard: Shard, readable: bool) -> bool
+    ensures { λ r. ⌜ r ≡ (eqb (naming .0) (shard .0) && readable) ⌝ }
 {
-    naming == shard && readable
+    naming.0 == shard.0 && readable
 }
 
 // Whether the shard that names an entry has a readable departure.
@@ -83,7 +83,7 @@ pub fn named_readable<'a>(
 {
     let mut i: usize = 0;
     while i < n {
-        if is_named_open(naming.0, shards[i], readable[i]) {
+        if is_named_open(naming, Shard(shards[i]), readable[i]) {
             return true;
         }
         i += 1;

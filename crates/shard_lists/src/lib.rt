@@ -44,7 +44,7 @@ fn unstamped(filed: Departures, items: &mut [u64; 264]) -> usize
         if d.stamped {
             i += 1;
         } else {
-            m = set::include(items, m, d.shard.0);
+            m = set::include(items, m, d.shard);
             i += 1;
         }
     }
@@ -88,7 +88,7 @@ fn destinations(e: Entry, local: Shard, r: RecordKey, items: &mut [u64; 264]) ->
     let mut i: usize = 0;
     while i < n {
         let size = e.sizes[i] as usize;
-        let from = e.froms[i];
+        let from = Shard(e.froms[i]);
         let id = e.ids[i];
         if entry::is_issue(from, id, local, r) {
             m = set::include_part(items, m, to, start, size);
@@ -143,7 +143,7 @@ fn with_departed(
     while i < n {
         let d = on_file.items[i];
         if is_over(d, anchor, route) {
-            m = set::include(items, m, d.shard.0);
+            m = set::include(items, m, d.shard);
             i += 1;
         } else {
             i += 1;
@@ -167,7 +167,7 @@ fn beyond(e: Entry, on_file: Departures, local: Shard, d: u32, items: &mut [u64;
             i += 1;
         } else {
             let t = types::shard_for_route(d, route);
-            let k = set::include(items, m, t.0);
+            let k = set::include(items, m, t);
             m = with_departed(items, k, on_file, anchor, route);
             i += 1;
         }

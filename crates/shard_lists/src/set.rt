@@ -1,20 +1,21 @@
-// A set of numbers, rising, in the first n of a lent array: what claimants, counterparts and departures are gathered in before they are
-// written out. The array is lent, so that a number is put in without a copy of it. Eight routes give at most 33 shards each.
+// A set of shards, rising, in the first n of a lent array: what claimants, counterparts and departures are gathered in before they are
+// written out. The array is lent, so that a shard is put in without a copy of it. Eight routes give at most 33 shards each.
 ghost use mathlib.Core.Path.{_≡_};
 ghost use Prim.Native.Nat.{_+_, _≤_, _<_};
 ghost use lib.ListN.{take, drop};
 ghost use Rattle.lists.specs.Lists.{include, includeAll, part, self as itself};
 ghost use Rattle.lists.specs.Arrays.{rank as rankOf, leads};
 ghost use Rattle.shard_lists.specs.Sets.{made, front, under, Sized, Sound, Holds, Opened};
+use types::Shard;
 
 // How many, from the front, are lower than x.
-fn rank(items: &[u64; 264], n: usize, x: u64) -> usize
+fn rank(items: &[u64; 264], n: usize, x: Shard) -> usize
     requires { ⌜ Sized (made (now items) n) ⌝ }
-    ensures { λ r. ⌜ r ≡ rankOf (under x) (take n (now (items .entry))) ⌝ }
+    ensures { λ r. ⌜ r ≡ rankOf (under (x .0)) (take n (now (items .entry))) ⌝ }
 {
     let mut i: usize = 0;
     while i < n {
-        if items[i] >= x {
+        if items[i] >= x.0 {
             return i;
         }
         i += 1;
@@ -23,17 +24,17 @@ fn rank(items: &[u64; 264], n: usize, x: u64) -> usize
 }
 
 // Whether x stands at k.
-fn stands(items: &[u64; 264], n: usize, k: usize, x: u64) -> bool
+fn stands(items: &[u64; 264], n: usize, k: usize, x: Shard) -> bool
     requires { ⌜ Sized (made (now items) n) ⌝ }
-    ensures { λ r. ⌜ r ≡ leads itself x (drop k (take n (now (items .entry)))) ⌝ }
+    ensures { λ r. ⌜ r ≡ leads itself (x .0) (drop k (take n (now (items .entry)))) ⌝ }
 {
-    k < n && items[k] == x
+    k < n && items[k] == x.0
 }
 
-// The numbers with x put in at k: those from k on move up by one, from the end.
-fn open(items: &mut [u64; 264], n: usize, k: usize, x: u64)
+// The shards with x put in at k: those from k on move up by one, from the end.
+fn open(items: &mut [u64; 264], n: usize, k: usize, x: Shard)
     requires { ⌜ Sized (made (now items) n) × (k ≤ n) × (n < 264) ⌝ }
-    ensures { λ r. ⌜ Opened (made (now (items .entry)) n) k x (made (now (items .exit)) (n + 1)) ⌝ }
+    ensures { λ r. ⌜ Opened (made (now (items .entry)) n) k (x .0) (made (now (items .exit)) (n + 1)) ⌝ }
 {
     let mut i = n;
     while k < i {
@@ -41,13 +42,13 @@ fn open(items: &mut [u64; 264], n: usize, k: usize, x: u64)
         items[i] = items[j];
         i = j;
     }
-    items[k] = x;
+    items[k] = x.0;
 }
 
 // The set with x in it: how many it has then. Where x stands it stands at its rank.
-pub fn include(items: &mut [u64; 264], n: usize, x: u64) -> usize
+pub fn include(items: &mut [u64; 264], n: usize, x: Shard) -> usize
     requires { ⌜ Sound (made (now items) n) × (n < 264) ⌝ }
-    ensures { λ r. ⌜ Holds (include itself x (front (made (now (items .entry)) n))) (made (now (items .exit)) r) ⌝ }
+    ensures { λ r. ⌜ Holds (include itself (x .0) (front (made (now (items .entry)) n))) (made (now (items .exit)) r) ⌝ }
 {
     let k = rank(items, n, x);
     if stands(items, n, k, x) {
@@ -57,7 +58,7 @@ pub fn include(items: &mut [u64; 264], n: usize, x: u64) -> usize
     n + 1
 }
 
-// The set of len with n numbers more in it, from a place of an array on.
+// The set of len with n shards more in it, from a place of an array on.
 pub fn include_part(
     items: &mut [u64; 264],
     len: usize,
@@ -71,7 +72,7 @@ pub fn include_part(
     let mut m = len;
     let mut i: usize = 0;
     while i < n {
-        let x = to[from + i];
+        let x = Shard(to[from + i]);
         m = include(items, m, x);
         i += 1;
     }

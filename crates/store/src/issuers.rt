@@ -17,24 +17,24 @@ pub struct Issuers {
 }
 
 // Whether the pair (a, b) stands before (r, t): by record, then by transaction.
-fn leads(a: u64, b: u64, r: u64, t: u64) -> bool
-    ensures { λ x. ⌜ x ≡ leadsPair a b r t ⌝ }
+fn leads(a: RecordKey, b: Transaction, r: RecordKey, t: Transaction) -> bool
+    ensures { λ x. ⌜ x ≡ leadsPair (a .0) (b .0) (r .0) (t .0) ⌝ }
 {
-    if a < r {
+    if a.0 < r.0 {
         return true;
     }
-    if r < a {
+    if r.0 < a.0 {
         return false;
     }
-    b < t
+    b.0 < t.0
 }
 
 // Whether the pair (a, b) is (r, t).
-fn is_pair(a: u64, b: u64, r: u64, t: u64) -> bool
-    ensures { λ x. ⌜ x ≡ isPair r t (pair a b) ⌝ }
+fn is_pair(a: RecordKey, b: Transaction, r: RecordKey, t: Transaction) -> bool
+    ensures { λ x. ⌜ x ≡ isPair (r .0) (t .0) (pair (a .0) (b .0)) ⌝ }
 {
-    if a == r {
-        return b == t;
+    if a.0 == r.0 {
+        return b.0 == t.0;
     }
     false
 }
@@ -54,7 +54,12 @@ fn rank(
     let mut high = n;
     while low < high {
         let mid = (low + high) / 2;
-        if leads(records[mid], transactions[mid], r.0, t.0) {
+        if leads(
+            RecordKey(records[mid]),
+            Transaction(transactions[mid]),
+            r,
+            t,
+        ) {
             low = mid + 1;
         } else {
             high = mid;
@@ -76,7 +81,7 @@ fn stands_at(
     ensures { λ x. ⌜ x ≡ names (pairsIn (made (now (records .entry)) (now (transactions .entry)) n)) (r .0) (t .0) ⌝ }
 {
     if k < n {
-        return is_pair(records[k], transactions[k], r.0, t.0);
+        return is_pair(RecordKey(records[k]), Transaction(transactions[k]), r, t);
     }
     false
 }

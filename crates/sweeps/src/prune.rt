@@ -77,7 +77,7 @@ fn with_needs<'a>(
         if out[j] {
             j += 1;
         } else {
-            out[j] = needs(e, local, shards[j], zeros[j], cuts[j]);
+            out[j] = needs(e, local, Shard(shards[j]), zeros[j], Time(cuts[j]));
             j += 1;
         }
     }

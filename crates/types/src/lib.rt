@@ -58,9 +58,8 @@ impl Shard {
         requires { ⌜ isShard (self .0) ≡ true ⌝ }
         ensures { λ r. ⌜ r ≡ owns (self .0) route ⌝ }
     {
-        let n = self.0;
         let led = (route >> 1) + 0x8000_0000_0000_0000;
-        (led >> (63 - self.depth())) == n
+        (led >> (63 - self.depth())) == self.0
     }
 }
 

@@ -9,7 +9,7 @@ record-key-requires : tie.Need-record-key-requires
 record-key-requires c κs = search needs
 
 returns : tie.Need-returns
-returns c = rw (eq-eqb _ _ (c .before .before .if1 .taken), c .before .before .before .before .record-key .ensures)
+returns c = rw (eq-eqb _ _ (c .before .before .if1 .taken), c .before .before .before .before .before .record-key .ensures)
 
 returns-2 : tie.Need-returns-2
 returns-2 c = rw (ne-eqb _ _ (c .if1 .left))

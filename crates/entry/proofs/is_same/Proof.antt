@@ -12,8 +12,8 @@ returns c = same-shard _ _ _ _ (c .if1 .taken)
 
 returns-2 : tie.Need-returns-2
 returns-2 c =
-    let s = c .before .args in
-    ne-eqb _ _ (c .if1 .left) ∙ sym (other-shard (s .s) (s .k) (s .shard) (s .key) (omega arith) (omega arith) (c .if1 .left))
+    let s = c .before .before .before .args in
+    ne-eqb _ _ (c .if1 .left) ∙ sym (other-shard (s .s .0) (s .k) (s .shard .0) (s .key) (omega arith) (omega arith) (c .if1 .left))
 
 pub is-same-spec : {M : Type 1} → statement M
 is-same-spec = tie.close (tie.spec returns returns-2)

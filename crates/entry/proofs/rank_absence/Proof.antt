@@ -14,7 +14,7 @@ use Rattle.entry.proofs.rank_absence.Statement.{statement}
 use Rattle.entry.proofs.rank_absence.Tie as tie
 
 abbrev Inv-loop : tie.InvT-loop
-Inv-loop n shard key shards keys i₀ i = (i ≤ n) × (i + rank (below (absence shard key)) (drop i (zipBy absence (take n shards) (take n keys))) ≡ rank (below (absence shard key)) (zipBy absence (take n shards) (take n keys)))
+Inv-loop n shard key shards keys i₀ i = (i ≤ n) × (i + rank (below (absence (shard .0) key)) (drop i (zipBy absence (take n shards) (take n keys))) ≡ rank (below (absence (shard .0) key)) (zipBy absence (take n shards) (take n keys)))
 
 abbrev μ-loop : tie.MeasureT-loop
 μ-loop n shard key shards keys i₀ i = n - i
@@ -22,17 +22,17 @@ abbrev μ-loop : tie.MeasureT-loop
 loop-holds : tie.Need-loop-holds Inv-loop μ-loop
 loop-holds c = search needs
 
+mul-t10 : tie.Need-mul-t10 Inv-loop μ-loop
+mul-t10 c = search needs
+
+array-read-t13 : tie.Need-array-read-t13 Inv-loop μ-loop
+array-read-t13 c = search needs
+
 mul-is-lower : tie.Need-mul-is-lower Inv-loop μ-loop
 mul-is-lower c = search needs
 
 array-read-is-lower : tie.Need-array-read-is-lower Inv-loop μ-loop
 array-read-is-lower c = search needs
-
-mul-is-lower-2 : tie.Need-mul-is-lower-2 Inv-loop μ-loop
-mul-is-lower-2 c = search needs
-
-array-read-is-lower-2 : tie.Need-array-read-is-lower-2 Inv-loop μ-loop
-array-read-is-lower-2 c = search needs
 
 is-lower-requires : tie.Need-is-lower-requires Inv-loop μ-loop
 is-lower-requires c κs = search needs
@@ -44,7 +44,7 @@ returns c =
     let h : length (s .args .t1) ≡ 8 = search needs in
     let k : length (s .args .t2) ≡ 8 = search needs in
     let e = pairs-cons absence (s .args .t1) (s .args .t2) (s .args .n) (omega arith) (omega arith) 0 0 (l .i) (omega arith) in
-    sym (rank-met (below (absence (s .args .shard) (s .args .key))) _ (l .i) (zipBy absence (take (s .args .n) (s .args .t1)) (take (s .args .n) (s .args .t2))) e (sym (c .before .is-lower .ensures) ∙ not-true _ (c .if1 .taken))) ∙ l .inv .1
+    sym (rank-met (below (absence (s .args .shard .0) (s .args .key))) _ (l .i) (zipBy absence (take (s .args .n) (s .args .t1)) (take (s .args .n) (s .args .t2))) e (sym (c .before .is-lower .ensures) ∙ not-true _ (c .if1 .taken))) ∙ l .inv .1
 
 add-i : tie.Need-add-i Inv-loop μ-loop
 add-i c = search needs
@@ -59,7 +59,7 @@ loop-again c =
     let h : length (s .args .t1) ≡ 8 = search needs in
     let k : length (s .args .t2) ≡ 8 = search needs in
     let e = pairs-cons absence (s .args .t1) (s .args .t2) (s .args .n) (omega arith) (omega arith) 0 0 (l .i) (omega arith) in
-    (search needs, rank-passed (below (absence (s .args .shard) (s .args .key))) _ (l .i) (zipBy absence (take (s .args .n) (s .args .t1)) (take (s .args .n) (s .args .t2))) e (sym (c .before .is-lower .ensures) ∙ not-false _ (c .if1 .left)) ∙ l .inv .1)
+    (search needs, rank-passed (below (absence (s .args .shard .0) (s .args .key))) _ (l .i) (zipBy absence (take (s .args .n) (s .args .t1)) (take (s .args .n) (s .args .t2))) e (sym (c .before .is-lower .ensures) ∙ not-false _ (c .if1 .left)) ∙ l .inv .1)
 
 returns-2 : tie.Need-returns-2 Inv-loop μ-loop
 returns-2 c =
@@ -68,7 +68,7 @@ returns-2 c =
     let h : length (s .args .t1) ≡ 8 = search needs in
     let k : length (s .args .t2) ≡ 8 = search needs in
     let e = pairs-end absence (s .args .t1) (s .args .t2) (s .args .n) (omega arith) (omega arith) (l .i) (omega arith) in
-    sym (rank-over (below (absence (s .args .shard) (s .args .key))) (l .i) (zipBy absence (take (s .args .n) (s .args .t1)) (take (s .args .n) (s .args .t2))) e) ∙ l .inv .1
+    sym (rank-over (below (absence (s .args .shard .0) (s .args .key))) (l .i) (zipBy absence (take (s .args .n) (s .args .t1)) (take (s .args .n) (s .args .t2))) e) ∙ l .inv .1
 
 pub rank-absence-spec : {M : Type 1} → statement M
 rank-absence-spec =
@@ -77,10 +77,10 @@ rank-absence-spec =
     Inv-loop
     μ-loop
     loop-holds
+    mul-t10
+    array-read-t13
     mul-is-lower
     array-read-is-lower
-    mul-is-lower-2
-    array-read-is-lower-2
     is-lower-requires
     returns
     add-i

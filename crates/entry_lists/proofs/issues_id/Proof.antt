@@ -37,17 +37,17 @@ cast-n c = search needs
 loop-holds : tie.Need-loop-holds Inv-loop μ-loop
 loop-holds c = (search needs, λ e f q a b. refl)
 
+mul-t10 : tie.Need-mul-t10 Inv-loop μ-loop
+mul-t10 c = search needs
+
+array-read-t13 : tie.Need-array-read-t13 Inv-loop μ-loop
+array-read-t13 c = search needs
+
 mul-is-crossing : tie.Need-mul-is-crossing Inv-loop μ-loop
 mul-is-crossing c = search needs
 
 array-read-is-crossing : tie.Need-array-read-is-crossing Inv-loop μ-loop
 array-read-is-crossing c = search needs
-
-mul-is-crossing-2 : tie.Need-mul-is-crossing-2 Inv-loop μ-loop
-mul-is-crossing-2 c = search needs
-
-array-read-is-crossing-2 : tie.Need-array-read-is-crossing-2 Inv-loop μ-loop
-array-read-is-crossing-2 c = search needs
 
 is-crossing-requires : tie.Need-is-crossing-requires Inv-loop μ-loop
 is-crossing-requires c κs = search needs
@@ -94,10 +94,10 @@ issues-id-spec =
     μ-loop
     cast-n
     loop-holds
+    mul-t10
+    array-read-t13
     mul-is-crossing
     array-read-is-crossing
-    mul-is-crossing-2
-    array-read-is-crossing-2
     is-crossing-requires
     returns
     add-i

@@ -43,11 +43,11 @@ loop-holds : tie.Need-loop-holds Inv-loop μ-loop
 unfolding plainEntry
 loop-holds c = (omega arith, c .before .before .pre .2, passed-by questionWords 5 _ _ _ _ refl (omega arith) (none-yet questionWords 5 _ _ _ _))
 
-mul-shard : tie.Need-mul-shard Inv-loop μ-loop
-mul-shard c = search needs
+mul-t12 : tie.Need-mul-t12 Inv-loop μ-loop
+mul-t12 c = search needs
 
-array-read-shard : tie.Need-array-read-shard Inv-loop μ-loop
-array-read-shard c = search needs
+array-read-t15 : tie.Need-array-read-t15 Inv-loop μ-loop
+array-read-t15 c = search needs
 
 add-i : tie.Need-add-i Inv-loop μ-loop
 add-i c = search needs
@@ -57,16 +57,16 @@ loop-less c = search needs
 
 loop-again : tie.Need-loop-again Inv-loop μ-loop
 loop-again c =
-    let l = c .before .before .before .loop in
-    let s = c .before .before .before .before .before .before in
+    let l = c .before .before .before .before .loop in
+    let s = c .before .before .before .before .before .before .before in
     let e = s .args .e in
     let step = next-left (other (s .args .local .0)) (getD (e .core) (l .i) 0) _ _ (rest-cons 0 (e .core) (l .i) (e .«core_len») (omega arith) (omega (arith, s .pre .0 .core, s .pre .0 .coreLen))) (ap not (eq-eqb _ _ (c .if1 .taken))) in
     (omega arith, l .inv .1, passed-by questionWords 5 _ _ _ _ (ap (map (ask (plainEntry e))) step) (omega arith) (l .inv .2))
 
-room : (c : tie.Else1 Inv-loop μ-loop) → 5 * c .before .before .before .loop .count + 5 ≤ 1920
+room : (c : tie.Else1 Inv-loop μ-loop) → 5 * c .before .before .before .before .loop .count + 5 ≤ 1920
 room c =
-    let l = c .before .before .before .loop in
-    let s = c .before .before .before .before .before .before in
+    let l = c .before .before .before .before .loop in
+    let s = c .before .before .before .before .before .before .before in
     omega (arith, l .inv .2 .few, s .pre .0 .coreLen, s .pre .1)
 
 mul-at : tie.Need-mul-at Inv-loop μ-loop
@@ -130,8 +130,8 @@ loop-again-2 : tie.Need-loop-again-2 Inv-loop μ-loop
 unfolding plainEntry
 loop-again-2 c =
     let d = c .before in
-    let l = d .before .before .before .loop in
-    let s = d .before .before .before .before .before .before in
+    let l = d .before .before .before .before .loop in
+    let s = d .before .before .before .before .before .before .before in
     let e = s .args .e in
     let step = next-kept (other (s .args .local .0)) (getD (e .core) (l .i) 0) _ _ (rest-cons 0 (e .core) (l .i) (e .«core_len») (omega arith) (omega (arith, s .pre .0 .core, s .pre .0 .coreLen))) (ap not (ne-eqb _ _ (d .if1 .left))) in
     (omega arith, l .inv .1, put-one questionWords 5 _ _ _ _ _ _ (ap (map (ask (plainEntry e))) step) (omega arith) (rw (c .cell-key .ensures) (five-sets (l .words) (5 * l .count) _ _ _ _ _)) (l .inv .2))
@@ -152,8 +152,8 @@ put-questions-spec =
     μ-loop
     cast-n
     loop-holds
-    mul-shard
-    array-read-shard
+    mul-t12
+    array-read-t15
     add-i
     loop-less
     loop-again

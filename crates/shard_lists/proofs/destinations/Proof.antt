@@ -40,17 +40,17 @@ cast-size c =
     let s = c .before .before .before .before in
     record { fits = omega (arith, size-few (s .args .t1) (s .pre .0) (l .i) (omega arith)) }
 
-mul-from : tie.Need-mul-from Inv-loop μ-loop
-mul-from c = search needs
-
-element-copy-out-from : tie.Need-element-copy-out-from Inv-loop μ-loop
-element-copy-out-from c = search needs
-
 mul-id : tie.Need-mul-id Inv-loop μ-loop
 mul-id c = search needs
 
 element-copy-out-id : tie.Need-element-copy-out-id Inv-loop μ-loop
 element-copy-out-id c = search needs
+
+mul-id-2 : tie.Need-mul-id-2 Inv-loop μ-loop
+mul-id-2 c = search needs
+
+element-copy-out-id-2 : tie.Need-element-copy-out-id-2 Inv-loop μ-loop
+element-copy-out-id-2 c = search needs
 
 is-issue-requires : tie.Need-is-issue-requires Inv-loop μ-loop
 is-issue-requires c κs = search needs
@@ -130,10 +130,10 @@ destinations-spec =
     loop-holds
     element-copy-out-size
     cast-size
-    mul-from
-    element-copy-out-from
     mul-id
     element-copy-out-id
+    mul-id-2
+    element-copy-out-id-2
     is-issue-requires
     include-part-requires
     add-start

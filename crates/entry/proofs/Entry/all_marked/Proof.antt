@@ -24,17 +24,17 @@ cast-n c = search needs
 loop-holds : tie.Need-loop-holds Inv-loop μ-loop
 loop-holds c = search needs
 
+mul-t9 : tie.Need-mul-t9 Inv-loop μ-loop
+mul-t9 c = search needs
+
+array-read-t12 : tie.Need-array-read-t12 Inv-loop μ-loop
+array-read-t12 c = search needs
+
 mul-is-open : tie.Need-mul-is-open Inv-loop μ-loop
 mul-is-open c = search needs
 
 array-read-is-open : tie.Need-array-read-is-open Inv-loop μ-loop
 array-read-is-open c = search needs
-
-mul-is-open-2 : tie.Need-mul-is-open-2 Inv-loop μ-loop
-mul-is-open-2 c = search needs
-
-array-read-is-open-2 : tie.Need-array-read-is-open-2 Inv-loop μ-loop
-array-read-is-open-2 c = search needs
 
 is-open-requires : tie.Need-is-open-requires Inv-loop μ-loop
 is-open-requires c κs = search needs
@@ -76,10 +76,10 @@ all-marked-spec =
     μ-loop
     cast-n
     loop-holds
+    mul-t9
+    array-read-t12
     mul-is-open
     array-read-is-open
-    mul-is-open-2
-    array-read-is-open-2
     is-open-requires
     returns
     add-i

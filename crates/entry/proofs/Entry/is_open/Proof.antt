@@ -14,7 +14,7 @@ has-mark-requires c κs = search needs
 
 returns : tie.Need-returns
 unfolding plainEntry
-returns c = rw (eq-eqb _ _ (c .before .if1 .taken), c .has-mark .ensures, c .before .before .before .record-key .ensures)
+returns c = rw (eq-eqb _ _ (c .before .if1 .taken), c .has-mark .ensures, c .before .before .before .before .record-key .ensures)
 
 returns-2 : tie.Need-returns-2
 unfolding plainEntry

@@ -24,17 +24,17 @@ cast-n c = search needs
 loop-holds : tie.Need-loop-holds Inv-loop μ-loop
 loop-holds c = search needs
 
+mul-t10 : tie.Need-mul-t10 Inv-loop μ-loop
+mul-t10 c = search needs
+
+element-copy-out-t13 : tie.Need-element-copy-out-t13 Inv-loop μ-loop
+element-copy-out-t13 c = search needs
+
 mul-is-same : tie.Need-mul-is-same Inv-loop μ-loop
 mul-is-same c = search needs
 
 element-copy-out-is-same : tie.Need-element-copy-out-is-same Inv-loop μ-loop
 element-copy-out-is-same c = search needs
-
-mul-is-same-2 : tie.Need-mul-is-same-2 Inv-loop μ-loop
-mul-is-same-2 c = search needs
-
-element-copy-out-is-same-2 : tie.Need-element-copy-out-is-same-2 Inv-loop μ-loop
-element-copy-out-is-same-2 c = search needs
 
 is-same-requires : tie.Need-is-same-requires Inv-loop μ-loop
 is-same-requires c κs = search needs
@@ -76,10 +76,10 @@ is-read-spec =
     μ-loop
     cast-n
     loop-holds
+    mul-t10
+    element-copy-out-t13
     mul-is-same
     element-copy-out-is-same
-    mul-is-same-2
-    element-copy-out-is-same-2
     is-same-requires
     returns
     add-i

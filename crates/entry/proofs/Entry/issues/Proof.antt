@@ -23,17 +23,17 @@ cast-n c = search needs
 loop-holds : tie.Need-loop-holds Inv-loop μ-loop
 loop-holds c = search needs
 
+mul-t10 : tie.Need-mul-t10 Inv-loop μ-loop
+mul-t10 c = search needs
+
+element-copy-out-t13 : tie.Need-element-copy-out-t13 Inv-loop μ-loop
+element-copy-out-t13 c = search needs
+
 mul-is-issue : tie.Need-mul-is-issue Inv-loop μ-loop
 mul-is-issue c = search needs
 
 element-copy-out-is-issue : tie.Need-element-copy-out-is-issue Inv-loop μ-loop
 element-copy-out-is-issue c = search needs
-
-mul-is-issue-2 : tie.Need-mul-is-issue-2 Inv-loop μ-loop
-mul-is-issue-2 c = search needs
-
-element-copy-out-is-issue-2 : tie.Need-element-copy-out-is-issue-2 Inv-loop μ-loop
-element-copy-out-is-issue-2 c = search needs
 
 is-issue-requires : tie.Need-is-issue-requires Inv-loop μ-loop
 is-issue-requires c κs = search needs
@@ -74,10 +74,10 @@ issues-spec =
     μ-loop
     cast-n
     loop-holds
+    mul-t10
+    element-copy-out-t13
     mul-is-issue
     element-copy-out-is-issue
-    mul-is-issue-2
-    element-copy-out-is-issue-2
     is-issue-requires
     returns
     add-i

@@ -23,14 +23,14 @@ cast-n c = search needs
 loop-holds : tie.Need-loop-holds Inv-loop μ-loop
 loop-holds c = search needs
 
-mul-is-debt : tie.Need-mul-is-debt Inv-loop μ-loop
-mul-is-debt c = search needs
+mul-t9 : tie.Need-mul-t9 Inv-loop μ-loop
+mul-t9 c = search needs
+
+element-copy-out-t12 : tie.Need-element-copy-out-t12 Inv-loop μ-loop
+element-copy-out-t12 c = search needs
 
 element-copy-out-is-debt : tie.Need-element-copy-out-is-debt Inv-loop μ-loop
 element-copy-out-is-debt c = search needs
-
-element-copy-out-is-debt-2 : tie.Need-element-copy-out-is-debt-2 Inv-loop μ-loop
-element-copy-out-is-debt-2 c = search needs
 
 is-debt-requires : tie.Need-is-debt-requires Inv-loop μ-loop
 is-debt-requires c κs = search needs
@@ -71,9 +71,9 @@ owes-spec =
     μ-loop
     cast-n
     loop-holds
-    mul-is-debt
+    mul-t9
+    element-copy-out-t12
     element-copy-out-is-debt
-    element-copy-out-is-debt-2
     is-debt-requires
     returns
     add-i

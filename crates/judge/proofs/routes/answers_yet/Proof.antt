@@ -20,7 +20,7 @@ use Rattle.judge.proofs.routes.answers_yet.Tie as tie
 
 abbrev Inv-loop : tie.InvT-loop
 Inv-loop n anchor local shards zeros cuts readable len routes stands i route led best₀ lowest₀ answers₀ j₀ best lowest answers j =
-    (j ≤ len) × ((ds : List Departure) (now : ℕ) → Shows ds now (view shards zeros cuts readable len) → Best now (counting (keep (overAt (anchor .0) route) (drop j ds))) best lowest answers)
+    (j ≤ len) × ((ds : List Departure) (now : ℕ) → Shows ds now (view shards zeros cuts readable len) → Best now (counting (keep (overAt (anchor .0) route) (drop j ds))) (best .0) (lowest .0) answers)
 
 abbrev μ-loop : tie.MeasureT-loop
 μ-loop n anchor local shards zeros cuts readable len routes stands i route led best₀ lowest₀ answers₀ j₀ best lowest answers j = j
@@ -74,17 +74,17 @@ loop-holds c = (search needs, λ ds now s. none-yet ds now _ s _ _)
 sub-j : tie.Need-sub-j Inv-loop μ-loop Inv-routes μ-routes
 sub-j c = search needs
 
-mul-shard : tie.Need-mul-shard Inv-loop μ-loop Inv-routes μ-routes
-mul-shard c = search needs
+mul-t29 : tie.Need-mul-t29 Inv-loop μ-loop Inv-routes μ-routes
+mul-t29 c = search needs
 
-element-copy-out-shard : tie.Need-element-copy-out-shard Inv-loop μ-loop Inv-routes μ-routes
-element-copy-out-shard c = search needs
+element-copy-out-t32 : tie.Need-element-copy-out-t32 Inv-loop μ-loop Inv-routes μ-routes
+element-copy-out-t32 c = search needs
 
-mul-cut : tie.Need-mul-cut Inv-loop μ-loop Inv-routes μ-routes
-mul-cut c = search needs
+mul-t29-2 : tie.Need-mul-t29-2 Inv-loop μ-loop Inv-routes μ-routes
+mul-t29-2 c = search needs
 
-element-copy-out-cut : tie.Need-element-copy-out-cut Inv-loop μ-loop Inv-routes μ-routes
-element-copy-out-cut c = search needs
+element-copy-out-t32-2 : tie.Need-element-copy-out-t32-2 Inv-loop μ-loop Inv-routes μ-routes
+element-copy-out-t32-2 c = search needs
 
 mul-counts-over : tie.Need-mul-counts-over Inv-loop μ-loop Inv-routes μ-routes
 mul-counts-over c = search needs
@@ -113,7 +113,7 @@ loop-again c =
     let a = m .before .before .before .before .before .before .args in
     let route = getD (a .t1) (m .before .before .before .before .before .routes .i) 0 in
     let test = rw (m .before .led-by-one .ensures) at (sym (c .before .counts-over .ensures) ∙ c .if2 .taken) in
-    (omega arith, λ ds now s. turn-won ds now _ s (a .anchor .0) route (l .j) (l .best) (l .lowest) (l .answers) (omega arith) (omega arith) (l .inv .1 ds now s) false test)
+    (omega arith, λ ds now s. turn-won ds now _ s (a .anchor .0) route (l .j) (l .best .0) (l .lowest .0) (l .answers) (omega arith) (omega arith) (l .inv .1 ds now s) false test)
 
 loop-less-2 : tie.Need-loop-less-2 Inv-loop μ-loop Inv-routes μ-routes
 loop-less-2 c = search needs
@@ -125,7 +125,7 @@ loop-again-2 c =
     let a = m .before .before .before .before .before .before .args in
     let route = getD (a .t1) (m .before .before .before .before .before .routes .i) 0 in
     let test = rw (m .before .led-by-one .ensures) at (sym (c .before .counts-over .ensures) ∙ c .if2 .left) in
-    (omega arith, λ ds now s. turn-lost ds now _ s (a .anchor .0) route (l .j) (l .best) (l .lowest) (l .answers) (omega arith) (omega arith) (l .inv .1 ds now s) test)
+    (omega arith, λ ds now s. turn-lost ds now _ s (a .anchor .0) route (l .j) (l .best .0) (l .lowest .0) (l .answers) (omega arith) (omega arith) (l .inv .1 ds now s) test)
 
 add-i-2 : tie.Need-add-i-2 Inv-loop μ-loop Inv-routes μ-routes
 add-i-2 c = search needs
@@ -146,7 +146,7 @@ routes-again-2 c =
           let p = answered now ds (a .anchor .0) (a .local .0) in
           let route = getD (a .t1) (l .i) 0 in
           let z : m .loop .j ≡ 0 = omega arith in
-          let told = gone-through now ds (overAt (a .anchor .0) route) (m .loop .j) (m .loop .best) (m .loop .lowest) (m .loop .answers) z (m .loop .inv .1 ds now s) in
+          let told = gone-through now ds (overAt (a .anchor .0) route) (m .loop .j) (m .loop .best .0) (m .loop .lowest .0) (m .loop .answers) z (m .loop .inv .1 ds now s) in
           let miss : p route ≡ false = ap (λ b. isRemote (a .local .0) route && b) (sym told ∙ c .if3 .left) ∙ and-false (isRemote (a .local .0) route) in
           any-miss p 0 (a .t1) (l .i) (a .n) (omega arith) (omega arith) miss ∙ l .inv .3 ds now s,
     )
@@ -168,7 +168,7 @@ returns-2 c ds now e s asks =
     let p = answered now ds (a .anchor .0) (a .local .0) in
     let route = getD (a .t1) (l .i) 0 in
     let z : m .loop .j ≡ 0 = omega arith in
-    let told = gone-through now ds (overAt (a .anchor .0) route) (m .loop .j) (m .loop .best) (m .loop .lowest) (m .loop .answers) z (m .loop .inv .1 ds now s) in
+    let told = gone-through now ds (overAt (a .anchor .0) route) (m .loop .j) (m .loop .best .0) (m .loop .lowest .0) (m .loop .answers) z (m .loop .inv .1 ds now s) in
     let hit : p route ≡ true =
     and-both (isRemote (a .local .0) route) (answerable now (counting (keep (overAt (a .anchor .0) route) ds)))
     (ap not (sym (o .owns .ensures) ∙ m .before .before .if1 .left)) (sym told ∙ c .if3 .taken) in
@@ -193,10 +193,10 @@ answers-yet-spec =
     led-by-one-requires
     loop-holds
     sub-j
-    mul-shard
-    element-copy-out-shard
-    mul-cut
-    element-copy-out-cut
+    mul-t29
+    element-copy-out-t32
+    mul-t29-2
+    element-copy-out-t32-2
     element-copy-out-answer
     mul-counts-over
     element-copy-out-counts-over

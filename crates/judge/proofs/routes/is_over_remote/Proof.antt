@@ -20,12 +20,12 @@ is-over-requires c κs = search needs
 returns : tie.Need-returns
 returns c =
     let s = c .before .before .before .before .args in
-    and-then (isRemote (s .local .0) (s .route)) (told (s .anchor) (s .route) (s .shard) (s .zeros) (s .cut)) _ _ (c .before .before .if1 .taken) (ap not (c .before .before .before .owns .ensures)) (rw (c .before .led-by-one .ensures) at (c .is-over .ensures))
+    and-then (isRemote (s .local .0) (s .route)) (told (s .anchor .0) (s .route) (s .shard .0) (s .zeros) (s .cut .0)) _ _ (c .before .before .if1 .taken) (ap not (c .before .before .before .owns .ensures)) (rw (c .before .led-by-one .ensures) at (c .is-over .ensures))
 
 returns-2 : tie.Need-returns-2
 returns-2 c =
     let s = c .before .before .args in
-    and-not (isRemote (s .local .0) (s .route)) (told (s .anchor) (s .route) (s .shard) (s .zeros) (s .cut)) _ (c .if1 .left) (ap not (c .before .owns .ensures))
+    and-not (isRemote (s .local .0) (s .route)) (told (s .anchor .0) (s .route) (s .shard .0) (s .zeros) (s .cut .0)) _ (c .if1 .left) (ap not (c .before .owns .ensures))
 
 pub is-over-remote-spec : {M : Type 1} → statement M
 is-over-remote-spec =

@@ -10,7 +10,7 @@ use Rattle.judge.proofs.routes.needs.Tie as tie
 returns : tie.Need-returns
 unfolding plainEntry
 returns c d good es ez ec =
-    let a = c .before .before in
+    let a = c .before .before .before in
     named-holds (a .args .local .0) d (plainEntry (a .args .e)) good (c .if1 .taken ∙ es)
 
 cast-covers-some : tie.Need-cast-covers-some
@@ -22,7 +22,7 @@ covers-some-requires c κs = search needs
 returns-2 : tie.Need-returns-2
 unfolding plainEntry
 returns-2 c d good es ez ec =
-    let a = c .before .before .before .before .before .before in
+    let a = c .before .before .before .before .before .before .before in
     let other = c .before .before .before .before .if1 .left in
     other-holds (a .args .local .0) d (plainEntry (a .args .e)) _ (λ h. other (h ∙ sym es))
     (c .covers-some .ensures d (plainEntry (a .args .e)) good es ez ec (record { routes = refl; anchor = refl }))

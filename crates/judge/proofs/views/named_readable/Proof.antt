@@ -24,14 +24,14 @@ abbrev μ-loop : tie.MeasureT-loop
 loop-holds : tie.Need-loop-holds Inv-loop μ-loop
 loop-holds c = (search needs, λ ds now zs cs s. refl)
 
-mul-is-named-open : tie.Need-mul-is-named-open Inv-loop μ-loop
-mul-is-named-open c = search needs
+mul-t8 : tie.Need-mul-t8 Inv-loop μ-loop
+mul-t8 c = search needs
+
+element-copy-out-t11 : tie.Need-element-copy-out-t11 Inv-loop μ-loop
+element-copy-out-t11 c = search needs
 
 element-copy-out-is-named-open : tie.Need-element-copy-out-is-named-open Inv-loop μ-loop
 element-copy-out-is-named-open c = search needs
-
-element-copy-out-is-named-open-2 : tie.Need-element-copy-out-is-named-open-2 Inv-loop μ-loop
-element-copy-out-is-named-open-2 c = search needs
 
 is-named-open-requires : tie.Need-is-named-open-requires Inv-loop μ-loop
 is-named-open-requires c κs = search needs
@@ -71,9 +71,9 @@ named-readable-spec =
     Inv-loop
     μ-loop
     loop-holds
-    mul-is-named-open
+    mul-t8
+    element-copy-out-t11
     element-copy-out-is-named-open
-    element-copy-out-is-named-open-2
     is-named-open-requires
     returns
     add-i

@@ -19,13 +19,13 @@ returns : tie.Need-returns
 returns c =
     let k = c .before .before .before in
     let s = k .before .before in
-    known-in (whole s) (s .args .x) (s .pre .0) (k .rank .result) (k .rank .ensures) _ (c .before .stands .ensures) (c .if1 .taken)
+    known-in (whole s) (s .args .x .0) (s .pre .0) (k .rank .result) (k .rank .ensures) _ (c .before .stands .ensures) (c .if1 .taken)
 
 open-requires : tie.Need-open-requires
 open-requires c κs =
     let k = c .before .before .before .before in
     let s = k .before .before in
-    (s .pre .0 .sized, rank-room (whole s) (s .args .x) (s .pre .0) (k .rank .result) (k .rank .ensures), s .pre .1)
+    (s .pre .0 .sized, rank-room (whole s) (s .args .x .0) (s .pre .0) (k .rank .result) (k .rank .ensures), s .pre .1)
 
 add-result : tie.Need-add-result
 add-result c = search needs
@@ -35,7 +35,7 @@ returns-2 c =
     let d = c .before .before in
     let k = d .before .before .before in
     let s = k .before .before in
-    put-in (whole s) (s .args .x) (s .pre .0) (k .rank .result) (k .rank .ensures) _ _ (d .before .stands .ensures) (d .if1 .left) (c .open .ensures)
+    put-in (whole s) (s .args .x .0) (s .pre .0) (k .rank .result) (k .rank .ensures) _ _ (d .before .stands .ensures) (d .if1 .left) (c .open .ensures)
 
 pub include-spec : {M : Type 1} → statement M
 include-spec =

@@ -22,14 +22,14 @@ abbrev μ-loop : tie.MeasureT-loop
 loop-holds : tie.Need-loop-holds Inv-loop μ-loop
 loop-holds c = (search needs, begun _ _ _ (omega arith) (c .pre .0))
 
-add-x : tie.Need-add-x Inv-loop μ-loop
-add-x c = search needs
+add-t11 : tie.Need-add-t11 Inv-loop μ-loop
+add-t11 c = search needs
 
-mul-x : tie.Need-mul-x Inv-loop μ-loop
-mul-x c = search needs
+mul-t12 : tie.Need-mul-t12 Inv-loop μ-loop
+mul-t12 c = search needs
 
-array-read-x : tie.Need-array-read-x Inv-loop μ-loop
-array-read-x c = search needs
+array-read-t15 : tie.Need-array-read-t15 Inv-loop μ-loop
+array-read-t15 c = search needs
 
 include-requires : tie.Need-include-requires Inv-loop μ-loop
 include-requires c κs =
@@ -63,9 +63,9 @@ include-part-spec =
     Inv-loop
     μ-loop
     loop-holds
-    add-x
-    mul-x
-    array-read-x
+    add-t11
+    mul-t12
+    array-read-t15
     include-requires
     add-i
     loop-less

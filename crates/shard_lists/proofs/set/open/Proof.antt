@@ -56,7 +56,7 @@ returns c =
     let q : l .i ≡ s .args .k = omega arith in
     record {
       sized = record { room = omega arith; size = search needs };
-      holds = inserted a₀ (l .items) (s .args .n) (s .args .k) (s .args .x) (omega arith) (omega arith) (omega arith) (rw q at (l .inv .3));
+      holds = inserted a₀ (l .items) (s .args .n) (s .args .k) (s .args .x .0) (omega arith) (omega arith) (omega arith) (rw q at (l .inv .3));
     }
 
 pub open-spec : {M : Type 1} → statement M

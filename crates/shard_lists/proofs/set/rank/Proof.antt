@@ -13,7 +13,7 @@ use Rattle.shard_lists.proofs.set.rank.Statement.{statement}
 use Rattle.shard_lists.proofs.set.rank.Tie as tie
 
 abbrev Inv-loop : tie.InvT-loop
-Inv-loop items n x i₀ i = (i ≤ n) × (i + rank (under x) (drop i (take n items)) ≡ rank (under x) (take n items))
+Inv-loop items n x i₀ i = (i ≤ n) × (i + rank (under (x .0)) (drop i (take n items)) ≡ rank (under (x .0)) (take n items))
 
 abbrev μ-loop : tie.MeasureT-loop
 μ-loop items n x i₀ i = n - i
@@ -29,10 +29,10 @@ element-copy-out-if1 c = search needs
 
 returns : tie.Need-returns Inv-loop μ-loop
 returns c =
-    let s = c .before .before .before .before in
-    let l = c .before .before .before .loop in
+    let s = c .before .before .before .before .before in
+    let l = c .before .before .before .before .loop in
     let a = s .args .items .now in
-    sym (rank-miss (under (s .args .x)) _ a (l .i) (s .args .n) (omega arith) (omega arith) (le-ltb _ _ (c .if1 .taken))) ∙ l .inv .1
+    sym (rank-miss (under (s .args .x .0)) _ a (l .i) (s .args .n) (omega arith) (omega arith) (le-ltb _ _ (c .if1 .taken))) ∙ l .inv .1
 
 add-i : tie.Need-add-i Inv-loop μ-loop
 add-i c = search needs
@@ -42,17 +42,17 @@ loop-less c = search needs
 
 loop-again : tie.Need-loop-again Inv-loop μ-loop
 loop-again c =
-    let s = c .before .before .before .before in
-    let l = c .before .before .before .loop in
+    let s = c .before .before .before .before .before in
+    let l = c .before .before .before .before .loop in
     let a = s .args .items .now in
-    (search needs, rank-hit (under (s .args .x)) _ a (l .i) (s .args .n) (omega arith) (omega arith) (lt-ltb _ _ (c .if1 .left)) ∙ l .inv .1)
+    (search needs, rank-hit (under (s .args .x .0)) _ a (l .i) (s .args .n) (omega arith) (omega arith) (lt-ltb _ _ (c .if1 .left)) ∙ l .inv .1)
 
 returns-2 : tie.Need-returns-2 Inv-loop μ-loop
 returns-2 c =
     let s = c .before .before in
     let l = c .before .loop in
     let a = s .args .items .now in
-    sym (rank-done (under (s .args .x)) a (l .i) (s .args .n) (omega arith) (omega arith)) ∙ l .inv .1
+    sym (rank-done (under (s .args .x .0)) a (l .i) (s .args .n) (omega arith) (omega arith)) ∙ l .inv .1
 
 pub rank-spec : {M : Type 1} → statement M
 rank-spec =

@@ -18,15 +18,15 @@ element-copy-out-result c = search needs
 
 returns : tie.Need-returns
 returns c =
-    let s = c .before .before in
+    let s = c .before .before .before in
     let a = s .args .items .now in
-    sym (ap (leads self (s .args .x)) (rest-cons _ a (s .args .k) (s .args .n) (omega arith) (omega arith)))
+    sym (ap (leads self (s .args .x .0)) (rest-cons _ a (s .args .k) (s .args .n) (omega arith) (omega arith)))
 
 returns-2 : tie.Need-returns-2
 returns-2 c =
     let s = c .before in
     let a = s .args .items .now in
-    le-ltb _ _ (c .if1 .left) ∙ sym (ap (leads self (s .args .x)) (rest-end a (s .args .k) (s .args .n) (omega arith) (omega arith)))
+    le-ltb _ _ (c .if1 .left) ∙ sym (ap (leads self (s .args .x .0)) (rest-end a (s .args .k) (s .args .n) (omega arith) (omega arith)))
 
 pub stands-spec : {M : Type 1} → statement M
 stands-spec = tie.close (tie.spec mul-result element-copy-out-result returns returns-2)

@@ -10,13 +10,15 @@ returns c = rw (lt-ltb _ _ (c .if1 .taken))
 
 returns-2 : tie.Need-returns-2
 returns-2 c =
-    let s = c .before .before .args in
-    rw (le-ltb _ _ (c .before .if1 .left), ne-eqb (s .a) (s .r) (omega arith))
+    let o = c .before .before .before in
+    let s = o .before .before .before .args in
+    rw (le-ltb _ _ (o .if1 .left), ne-eqb (s .a .0) (s .r .0) (omega arith))
 
 returns-3 : tie.Need-returns-3
 returns-3 c =
-    let s = c .before .before .args in
-    rw (le-ltb _ _ (c .before .if1 .left), eq-eqb (s .a) (s .r) (omega arith))
+    let o = c .before .before .before .before .before in
+    let s = o .before .before .before .args in
+    rw (le-ltb _ _ (o .if1 .left), eq-eqb (s .a .0) (s .r .0) (omega arith))
 
 pub leads-spec : {M : Type 1} → statement M
 leads-spec = tie.close (tie.spec returns returns-2 returns-3)

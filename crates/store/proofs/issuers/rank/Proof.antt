@@ -35,17 +35,17 @@ loop-holds c =
 add-mid : tie.Need-add-mid Inv-loop μ-loop
 add-mid c = search needs
 
-mul-leads : tie.Need-mul-leads Inv-loop μ-loop
-mul-leads c = search needs
+mul-t10 : tie.Need-mul-t10 Inv-loop μ-loop
+mul-t10 c = search needs
 
-element-copy-out-leads : tie.Need-element-copy-out-leads Inv-loop μ-loop
-element-copy-out-leads c = search needs
+element-copy-out-t14 : tie.Need-element-copy-out-t14 Inv-loop μ-loop
+element-copy-out-t14 c = search needs
 
-mul-leads-2 : tie.Need-mul-leads-2 Inv-loop μ-loop
-mul-leads-2 c = search needs
+mul-t16 : tie.Need-mul-t16 Inv-loop μ-loop
+mul-t16 c = search needs
 
-element-copy-out-leads-2 : tie.Need-element-copy-out-leads-2 Inv-loop μ-loop
-element-copy-out-leads-2 c = search needs
+element-copy-out-t19 : tie.Need-element-copy-out-t19 Inv-loop μ-loop
+element-copy-out-t19 c = search needs
 
 leads-requires : tie.Need-leads-requires Inv-loop μ-loop
 leads-requires c κs = search needs
@@ -92,10 +92,10 @@ rank-spec =
     μ-loop
     loop-holds
     add-mid
-    mul-leads
-    element-copy-out-leads
-    mul-leads-2
-    element-copy-out-leads-2
+    mul-t10
+    element-copy-out-t14
+    mul-t16
+    element-copy-out-t19
     leads-requires
     add-low
     loop-less

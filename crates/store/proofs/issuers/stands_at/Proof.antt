@@ -20,17 +20,17 @@ whole s = made (s .args .records .now) (s .args .transactions .now) (s .args .n)
 is-word : (s : tie.Start) → Word (s .args .t .0)
 is-word s = search needs
 
-mul-is-pair : tie.Need-mul-is-pair
-mul-is-pair c = search needs
+mul-t8 : tie.Need-mul-t8
+mul-t8 c = search needs
 
-element-copy-out-is-pair : tie.Need-element-copy-out-is-pair
-element-copy-out-is-pair c = search needs
+element-copy-out-t11 : tie.Need-element-copy-out-t11
+element-copy-out-t11 c = search needs
 
-mul-is-pair-2 : tie.Need-mul-is-pair-2
-mul-is-pair-2 c = search needs
+mul-t13 : tie.Need-mul-t13
+mul-t13 c = search needs
 
-element-copy-out-is-pair-2 : tie.Need-element-copy-out-is-pair-2
-element-copy-out-is-pair-2 c = search needs
+element-copy-out-t16 : tie.Need-element-copy-out-t16
+element-copy-out-t16 c = search needs
 
 is-pair-requires : tie.Need-is-pair-requires
 is-pair-requires c κs = search needs
@@ -57,10 +57,10 @@ pub stands-at-spec : {M : Type 1} → statement M
 stands-at-spec =
     tie.close
     (tie.spec
-    mul-is-pair
-    element-copy-out-is-pair
-    mul-is-pair-2
-    element-copy-out-is-pair-2
+    mul-t8
+    element-copy-out-t11
+    mul-t13
+    element-copy-out-t16
     is-pair-requires
     returns
     returns-2)

@@ -57,23 +57,23 @@ loop-again c =
           ∙ l .inv .2 ds w,
     )
 
+mul-t15 : tie.Need-mul-t15 Inv-loop μ-loop
+mul-t15 c = search needs
+
+element-copy-out-t18 : tie.Need-element-copy-out-t18 Inv-loop μ-loop
+element-copy-out-t18 c = search needs
+
 mul-needs : tie.Need-mul-needs Inv-loop μ-loop
 mul-needs c = search needs
 
 element-copy-out-needs : tie.Need-element-copy-out-needs Inv-loop μ-loop
 element-copy-out-needs c = search needs
 
-mul-needs-2 : tie.Need-mul-needs-2 Inv-loop μ-loop
-mul-needs-2 c = search needs
+mul-t24 : tie.Need-mul-t24 Inv-loop μ-loop
+mul-t24 c = search needs
 
-element-copy-out-needs-2 : tie.Need-element-copy-out-needs-2 Inv-loop μ-loop
-element-copy-out-needs-2 c = search needs
-
-mul-needs-3 : tie.Need-mul-needs-3 Inv-loop μ-loop
-mul-needs-3 c = search needs
-
-element-copy-out-needs-3 : tie.Need-element-copy-out-needs-3 Inv-loop μ-loop
-element-copy-out-needs-3 c = search needs
+element-copy-out-t27 : tie.Need-element-copy-out-t27 Inv-loop μ-loop
+element-copy-out-t27 c = search needs
 
 needs-requires : tie.Need-needs-requires Inv-loop μ-loop
 needs-requires c κs =
@@ -126,12 +126,12 @@ with-needs-spec =
     add-j
     loop-less
     loop-again
+    mul-t15
+    element-copy-out-t18
     mul-needs
     element-copy-out-needs
-    mul-needs-2
-    element-copy-out-needs-2
-    mul-needs-3
-    element-copy-out-needs-3
+    mul-t24
+    element-copy-out-t27
     needs-requires
     array-write-out
     add-j-2

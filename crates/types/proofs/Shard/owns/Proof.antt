@@ -38,8 +38,9 @@ shr-result c = omega (arith, shift c, known (c .before) .zeros)
 
 returns : tie.Need-returns
 returns c =
-    let s = c .before .args in
-    ap (λ z. eqb ((s .route / 2 + 2 ^ 63) / 2 ^ z) (s .self .0)) (shift c) ∙ owned (s .self .0) (s .route) (known (c .before))
+    let d = c .before in
+    let s = d .before .args in
+    ap (λ z. eqb ((s .route / 2 + 2 ^ 63) / 2 ^ z) (s .self .0)) (shift d) ∙ owned (s .self .0) (s .route) (known (d .before))
 
 pub owns-spec : {M : Type 1} → statement M
 owns-spec = tie.close (tie.spec add-led depth-requires sub-result cast-result shr-result returns)
