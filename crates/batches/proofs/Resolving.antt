@@ -6,14 +6,16 @@ use mathlib.Core.Path.{_≡_, refl, sym, ap, ap₂, _∙_}
 use mathlib.Core.Bool.{Bool, true, false, cond, not, _&&_, false≢true}
 use mathlib.Core.List.{List, [], _∷_}
 use mathlib.Core.Option.{none, some}
+use mathlib.Core.Logic.{_⊎_, inl, inr}
 use native.Mathlib.Omega.{arith}
-use lib.Dec.{eqb, ltb}
+use lib.Dec.{eqb, ltb, leb}
+use borrow.Author.Tests.{leb-true, le-leb, eqb-false}
 use lib.ListN.{drop, getD, set}
 use Rattle.lists.specs.Lists.{keep, has, get, change, self}
 use Rattle.lists.specs.Arrays.{place}
 use Rattle.lists.specs.declared.Found.the-variants.{At, Nothing}
 use Rattle.lists.proofs.Cuts.{rest-none}
-use Rattle.lists.proofs.Tests.{and-left}
+use Rattle.lists.proofs.Tests.{and-left, and-right}
 use Rattle.rules.specs.Plain as plain
 use Rattle.rules.specs.Plain.{Plain, transactionOf, withEntries, isCore, isSettling, owes, remainder}
 use Rattle.rules.specs.Words.{Line, word, lineCount, finalizationFormed, finalizationLines, deciding}
@@ -28,15 +30,15 @@ use Rattle.store.specs.declared.issuers.Issuers.{Issuers}
 use Rattle.store.specs.Roster.{keysOf, is, Closed}
 use Rattle.store.specs.Issuers as issuers
 use Rattle.store.specs.Issuers.{isNot, pairsIn}
-use Rattle.words.proofs.Lines.{lineOf, lineAt, lines-length, line-at}
+use Rattle.words.proofs.Lines.{lineOf, lineAt, lines-length, code-at, line-at}
 use Rattle.ledger.specs.declared.Ledger.{Ledger}
 use Rattle.ledger.specs.Contents.{contents, Held}
 use Rattle.ledger.specs.Meets.{Meets}
 use Rattle.ledger.proofs.Lift.{withParts, Became, found-at, not-found, changed, let-go, unnamed}
 use Rattle.ledger.proofs.Meeting.{refuses, passes, answers, says}
 use Rattle.batches.specs.declared.finalization.Ruling as declared
-use Rattle.batches.specs.declared.finalization.Ruling.the-variants.{Skip, Turn, Release}
-use Rattle.batches.specs.Rulings.{plainRuling}
+use Rattle.batches.specs.declared.finalization.Ruling.the-variants.{Skip, Turn, Release, Refused}
+use Rattle.batches.specs.Rulings.{plainRuling, ruledOn}
 use Rattle.batches.proofs.Going.{Going, ends}
 
 -- lines i and on, on the ledger in hand, and all lines, on the one handed in
@@ -94,6 +96,26 @@ turn-good p t e q c g =
     not-settling plain.leg h = absurd (false≢true h)
     not-settling plain.core h = refl
     not-settling plain.remainder h = absurd (false≢true h)
+
+-- with a decision code, which is 1, 2 or 3, a line rules as the paper does
+pub ruled-on : (local : ℕ) (ds : List ℕ) (l : Line) (e : plain.Entry) → leb 1 (l .decision) && leb (l .decision) 3 ≡ true →
+    plainRuling (ruledOn local ds l e) ≡ some (rulingOn local ds l e)
+ruled-on local ds l e h =
+    go (eqb (l .decision) 1) (leb 2 (l .decision) && leb (l .decision) 3) (isSettling (e .part) && not (has self (l .transaction) ds)) (isCore (e .part) && owes local (e .terms)) others
+  where
+    others : eqb (l .decision) 1 ≡ false → leb 2 (l .decision) && leb (l .decision) 3 ≡ true
+    others k =
+        let low = leb-true 1 (l .decision) (and-left (leb 1 (l .decision)) _ h) in
+        rw (le-leb 2 (l .decision) (omega (arith, low, eqb-false (l .decision) 1 k))) (and-right (leb 1 (l .decision)) _ h)
+
+    go : (one more waits owing : Bool) → (one ≡ false → more ≡ true) →
+        plainRuling (cond one (cond waits Skip (cond owing Turn Release)) (cond more (cond waits Skip Release) Refused)) ≡ some (cond waits skip (cond (one && owing) turn release))
+    go true more true owing k = refl
+    go true more false true k = refl
+    go true more false false k = refl
+    go false true true owing k = refl
+    go false true false owing k = refl
+    go false false waits owing k = absurd (false≢true (k refl))
 
 -- what a ruling on an entry says of it
 turns : (local : ℕ) (ds : List ℕ) (l : Line) (e : plain.Entry) → rulingOn local ds l e ≡ turn → isCore (e .part) && owes local (e .terms) ≡ true
@@ -157,32 +179,41 @@ module _ (l₀ : Ledger) (ws : List ℕ) (f : finalizationFormed ws ≡ true) (l
 
   -- the entry is at k, and s is the rule on it, by a code that was read where n lines end
   module _ (k : ℕ) (d : Entry) (e : place (is tx) 0 (keysOf (l .roster)) ≡ At k) (n : ℕ) (w : n ≡ lineCount ws) (s : declared.Ruling)
-      (o : plainRuling s ≡ rulingOn (l .local .0) (deciding ws) (lineOf tx (word (2 + n + i) ws)) (plainEntry (getD (l .entries) (getD (l .roster .slots) k 0) d))) where
+      (o : s ≡ ruledOn (l .local .0) (deciding ws) (lineOf tx (word (2 + n + i) ws)) (plainEntry (getD (l .entries) (getD (l .roster .slots) k 0) d))) where
     abbrev old : Entry
     old = getD (l .entries) (getD (l .roster .slots) k 0) d
 
-    on : (r : declared.Ruling) → s ≡ r → rulingOn (contents l .local) (deciding ws) (lineAt ws i) (plainEntry old) ≡ plainRuling r
+    said : plainRuling s ≡ some (rulingOn (contents l .local) (deciding ws) (lineAt ws i) (plainEntry old))
     unfolding contents
-    on r q = ap (λ m. rulingOn (l .local .0) (deciding ws) (lineOf tx (word (2 + m + i) ws)) (plainEntry old)) (sym w) ∙ sym o ∙ ap plainRuling q
+    said =
+        ap plainRuling (o ∙ ap (λ m. ruledOn (l .local .0) (deciding ws) (lineOf tx (word (2 + m + i) ws)) (plainEntry old)) w)
+        ∙ ruled-on (l .local .0) (deciding ws) (lineAt ws i) (plainEntry old) (code-at ws f i h)
 
-    rules : (r : declared.Ruling) → s ≡ r → ruling (contents l₀ .local) (deciding ws) (lineAt ws i) (get transactionOf tx (contents l .entries)) ≡ plainRuling r
+    on : (r : Ruling) → plainRuling s ≡ some r → rulingOn (contents l .local) (deciding ws) (lineAt ws i) (plainEntry old) ≡ r
+    on r q = let both = sym said ∙ q in cc
+
+    rules : (r : Ruling) → plainRuling s ≡ some r → ruling (contents l₀ .local) (deciding ws) (lineAt ws i) (get transactionOf tx (contents l .entries)) ≡ r
     rules r q =
         ap (ruling (contents l₀ .local) (deciding ws) (lineAt ws i)) (found-at l (v .held) tx k e .got d)
         ∙ ap (λ m. rulingOn m (deciding ws) (lineAt ws i) (plainEntry old)) (sym same-local)
         ∙ on r q
 
-    pub line-skip : s ≡ Skip → Resolving l₀ ws l released (i + 1)
-    line-skip q = rw (let z : released + 0 ≡ released = omega arith in z) at (next skip l (rules Skip q) (record { held = v .held; holds = refl }))
+    -- the entry is left as it is: the line skips it, and none is refused
+    pub line-leave : (s ≡ Skip) ⊎ (s ≡ Refused) → Resolving l₀ ws l released (i + 1)
+    line-leave (inl q) = rw (let z : released + 0 ≡ released = omega arith in z) at (next skip l (rules skip (ap plainRuling q)) (record { held = v .held; holds = refl }))
+    line-leave (inr q) =
+        let both = sym (ap plainRuling q) ∙ said in
+        absurd (let z : _≡_ {A = ℕ} 0 1 = cc in omega arith)
 
     pub line-turn : s ≡ Turn → (x : Entry) → Means (withPart remainder (plainEntry old)) x →
         Resolving l₀ ws (withParts l (l .roster) (set (l .entries) (getD (l .roster .slots) k 0) x) (l .issuers)) released (i + 1)
     line-turn q x m =
-        let good = turn-good (contents l) tx (plainEntry old) (found-at l (v .held) tx k e .got d) (turns (contents l .local) (deciding ws) (lineAt ws i) (plainEntry old) (on Turn q)) (v .held .good) in
+        let good = turn-good (contents l) tx (plainEntry old) (found-at l (v .held) tx k e .got d) (turns (contents l .local) (deciding ws) (lineAt ws i) (plainEntry old) (on turn (ap plainRuling q))) (v .held .good) in
         rw (let z : released + 0 ≡ released = omega arith in z) at
-        (next turn _ (rules Turn q) (changed l (v .held) tx k x d (withPart remainder) e (m .fits) (m .plain) (λ y. refl) good))
+        (next turn _ (rules turn (ap plainRuling q)) (changed l (v .held) tx k x d (withPart remainder) e (m .fits) (m .plain) (λ y. refl) good))
 
     pub line-release : s ≡ Release → (r : Roster) (x : Issuers) → Closed (l .roster) k r → issuers.Holds (keep (isNot tx) (pairsIn (l .issuers))) x →
         Resolving l₀ ws (withParts l r (l .entries) x) (released + 1) (i + 1)
     unfolding afterForget
     line-release q r x c ix =
-        next release _ (rules Release q) (let-go l (v .held) tx k r x e c (unnamed l (v .held) tx x ix) (step-good (forget tx) tt (contents l) (v .held .good)))
+        next release _ (rules release (ap plainRuling q)) (let-go l (v .held) tx k r x e c (unnamed l (v .held) tx x ix) (step-good (forget tx) tt (contents l) (v .held .good)))

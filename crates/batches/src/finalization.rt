@@ -5,12 +5,11 @@ ghost use mathlib.Core.List.{[]};
 ghost use Rattle.lists.specs.Lists.{has, self};
 ghost use Rattle.rules.specs.Plain.{isCore, isSettling, owes};
 ghost use Rattle.rules.specs.Calls.{finalizationRefusal, afterFinalization};
-ghost use Rattle.rules.specs.Entries.{rulingOn};
 ghost use Rattle.rules.specs.Words.{finalizationFormed, deciding};
 ghost use Rattle.entry.specs.Entry.{plainEntry, plainPart, Fits};
 ghost use Rattle.ledger.specs.Contents.{Held, contents};
 ghost use Rattle.ledger.specs.Meets.{Meets};
-ghost use Rattle.batches.specs.Rulings.{plainRuling, decided, line};
+ghost use Rattle.batches.specs.Rulings.{ruledBy, ruledOn, line};
 use crate::items_of;
 use entry::Entry;
 use entry::Part;
@@ -24,28 +23,32 @@ use words::slices::contains;
 use words::slices::part;
 use words::slices::size_at;
 
-// What a line does with the entry that it names.
+// What a line does with the entry that it names; Refused for a code that is none of the three.
 pub enum Ruling {
     Skip,
     Turn,
     Release,
+    Refused,
 }
 
-// By a line's decision code: 1 is Accept, 2 Aborted, 3 any other. The ranges outside are refused before a line is read.
+// By a line's decision code: 1 is Accept, 2 Aborted, 3 any other.
 fn decide(code: u64, is_open: bool, is_owing: bool) -> Ruling
-    ensures { λ r. ⌜ plainRuling r ≡ decided code «is_open» «is_owing» ⌝ }
+    ensures { λ r. ⌜ r ≡ ruledBy code «is_open» «is_owing» ⌝ }
 {
-    if is_open {
-        return Ruling::Skip;
-    }
     match code {
-        1 => if is_owing {
+        1 => if is_open {
+            Ruling::Skip
+        } else if is_owing {
             Ruling::Turn
         } else {
             Ruling::Release
         },
-        2..=3 => Ruling::Release,
-        0 | 4..=0xffff_ffff_ffff_ffff => Ruling::Release,
+        2..=3 => if is_open {
+            Ruling::Skip
+        } else {
+            Ruling::Release
+        },
+        0 | 4..=0xffff_ffff_ffff_ffff => Ruling::Refused,
     }
 }
 
@@ -79,7 +82,7 @@ fn is_owing(e: Entry, local: Shard) -> bool
 // What the line of a transaction and a decision code does with the transaction's entry.
 fn rule(words: &[u64], tx: Transaction, code: u64, e: Entry, local: Shard) -> Ruling
     requires { ⌜ (finalizationFormed (now words) ≡ true) × Fits e ⌝ }
-    ensures { λ r. ⌜ plainRuling r ≡ rulingOn (local .0) (deciding (now (words .entry))) (line (tx .0) code) (plainEntry e) ⌝ }
+    ensures { λ r. ⌜ r ≡ ruledOn (local .0) (deciding (now (words .entry))) (line (tx .0) code) (plainEntry e) ⌝ }
 {
     let part = e.part;
     let open = is_open(words, tx, part);
@@ -124,6 +127,7 @@ pub fn release_resolved(mut ledger: Ledger, words: &[u64]) -> Done
                 ledger.issuers = issuers.without(tx);
                 released += 1;
             }
+            Ruling::Refused => {} // never: the words are formed
         }
     }
     Done {

@@ -11,7 +11,7 @@ use borrow.Author.Tests.{leb-true, eqb-true, le-leb, eq-eqb}
 use Rattle.lists.specs.Lists.{all, zipBy, part}
 use Rattle.lists.proofs.Tests.{and-true}
 use Rattle.lists.proofs.Keep.{each-of}
-use Rattle.lists.proofs.Cuts.{rest-tail, part-length, part-more, zipBy-length, zipBy-rest}
+use Rattle.lists.proofs.Cuts.{all-at, rest-tail, part-length, part-at, part-more, zipBy-length, zipBy-rest}
 use Rattle.rules.specs.Words.{word, Line, lineCount, decidingCount, finalizationLines, deciding, finalizationTests, finalizationFormed}
 
 pub record Finalized (ws : List ℕ) : Type 0 where
@@ -72,6 +72,14 @@ module _ (ws : List ℕ) where
         ap length as-parts
         ∙ zipBy-length lineOf (part 2 (lineCount ws) ws) (part (2 + lineCount ws) (lineCount ws) ws) (transactions-many ∙ sym decisions-many)
         ∙ transactions-many
+
+    -- a decision code is 1, 2 or 3
+    pub code-at : (i : ℕ) → i < lineCount ws → leb 1 (word (2 + lineCount ws + i) ws) && leb (word (2 + lineCount ws + i) ws) 3 ≡ true
+    unfolding finalizationFormed
+    code-at i h =
+        let n = lineCount ws in
+        let all = rw (once n) at (each-of (finalizationTests ws) f .1 .1 .1 .1 .0) in
+        rw (part-at (2 + n) n i ws h) at (all-at (λ d. leb 1 d && leb d 3) 0 (part (2 + n) n ws) i (omega (arith, decisions-many)) all)
 
     pub line-at : (i : ℕ) → i < lineCount ws → drop i (finalizationLines ws) ≡ lineAt ws i ∷ drop (i + 1) (finalizationLines ws)
     line-at i h =

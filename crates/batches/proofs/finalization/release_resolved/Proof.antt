@@ -5,13 +5,15 @@ use Prim.Native.Nat.{ℕ, _+_, _-_, _<_}
 use mathlib.Core.Path.{_≡_, sym, _∙_}
 use mathlib.Core.Bool.{true}
 use mathlib.Core.List.{List}
+use mathlib.Core.Logic.{_⊎_, inl, inr}
 use native.Mathlib.Omega.{arith}
 use Rattle.rules.specs.Words.{word, lineCount, finalizationFormed}
 use Rattle.words.proofs.Lines.{Finalized, finalized}
 use Rattle.ledger.specs.declared.Ledger.{Ledger}
 use Rattle.ledger.proofs.Lift.{AtSlot, found-at}
+use Rattle.batches.specs.declared.finalization.Ruling.the-variants.{Skip, Refused}
 use Rattle.batches.proofs.Going.{Going, starts, turning, goes-on}
-use Rattle.batches.proofs.Resolving.{Resolving, resolving, formed, resolves, line-unknown, line-skip, line-turn, line-release}
+use Rattle.batches.proofs.Resolving.{Resolving, resolving, formed, resolves, line-unknown, line-leave, line-turn, line-release}
 use borrow.Author.Needs.{needs}
 use Rattle.batches.proofs.finalization.release_resolved.Statement.{statement}
 use Rattle.batches.proofs.finalization.release_resolved.Tie as tie
@@ -54,6 +56,23 @@ there : (c : tie.After-k Inv-loop μ-loop) → AtSlot (c .before .before .before
 there c =
     let w = c .before .before .before .before .before .before in
     found-at (w .before .loop .ledger) (stands w .so .held) _ (c .k .given .0 .0) (sym (c .before .before .find .ensures) ∙ c .k .given .1)
+
+-- the entry that was found is left as it is
+leaves : (c : tie.After-rule Inv-loop μ-loop) → (c .rule .result ≡ Skip) ⊎ (c .rule .result ≡ Refused) →
+    let w = c .before .before .before .before .before .before .before .before .before .before .before in
+    let o = w .before .loop in
+    let s = w .before .before in
+    let a = s .before .before .before .args in
+    Going (s .before .refusal .result) (a .t1) (o .ledger) (o .released) (Resolving (a .t1) (a .words .now) (o .ledger) (o .released) (o .i + 1))
+leaves c q =
+    let w = c .before .before .before .before .before .before .before .before .before .before .before in
+    let o = w .before .loop in
+    let s = w .before .before in
+    let a = s .before .before .before .args in
+    let k = c .before .before .before .before .before in
+    goes-on (s .before .refusal .result) (a .t1) _ _ _ (stands w .none)
+    (line-leave (a .t1) (a .words .now) (stands w .formed) (o .ledger) (o .released) (o .i) (stands w .so) (stands w .line) (k .k .given .0 .0) _
+    (sym (k .before .before .find .ensures) ∙ k .k .given .1) (s .items-of .result) (stands w .lines) (c .rule .result) (c .rule .ensures) q)
 
 refusal-requires : tie.Need-refusal-requires Inv-loop μ-loop
 refusal-requires c κs = search needs
@@ -134,15 +153,7 @@ loop-less-2 : tie.Need-loop-less-2 Inv-loop μ-loop
 loop-less-2 c = omega (arith, stands (c .before .before .before .before .before .before .before .before .before .before .before .before .before))
 
 loop-again-2 : tie.Need-loop-again-2 Inv-loop μ-loop
-loop-again-2 c =
-    let o = c .before .before .before .before .before .before .before .before .before .before .before .before .before .before .loop in
-    let w = c .before .before .before .before .before .before .before .before .before .before .before .before .before in
-    let s = w .before .before in
-    let a = s .before .before .before .args in
-    let k = c .before .before .before .before .before .before .before in
-    goes-on (s .before .refusal .result) (a .t1) _ _ _ (stands w .none)
-    (line-skip (a .t1) (a .words .now) (stands w .formed) (o .ledger) (o .released) (o .i) (stands w .so) (stands w .line) (k .k .given .0 .0) _
-    (sym (k .before .before .find .ensures) ∙ k .k .given .1) (s .items-of .result) (stands w .lines) (c .before .before .rule .result) (c .before .before .rule .ensures) (c .enum-told2 .given .1))
+loop-again-2 c = leaves (c .before .before) (inl (c .enum-told2 .given .1))
 
 enum-told-3 : tie.Need-enum-told-3 Inv-loop μ-loop
 enum-told-3 c = search needs
@@ -196,6 +207,15 @@ loop-again-4 c =
     (line-release (a .t1) (a .words .now) (stands w .formed) (o .ledger) (o .released) (o .i) (stands w .so) (stands w .line) (k .k .given .0 .0) _
     (sym (k .before .before .find .ensures) ∙ k .k .given .1) (s .items-of .result) (stands w .lines) (c .before .before .before .before .before .rule .result) (c .before .before .before .before .before .rule .ensures) (c .before .before .before .enum-told4 .given .1) (c .before .closed .result) (c .without .result) (c .before .closed .ensures) (c .without .ensures))
 
+enum-told-5 : tie.Need-enum-told-5 Inv-loop μ-loop
+enum-told-5 c = search needs
+
+loop-less-5 : tie.Need-loop-less-5 Inv-loop μ-loop
+loop-less-5 c = omega (arith, stands (c .before .before .before .before .before .before .before .before .before .before .before .before .before))
+
+loop-again-5 : tie.Need-loop-again-5 Inv-loop μ-loop
+loop-again-5 c = leaves (c .before .before) (inr (c .enum-told5 .given .1))
+
 returns : tie.Need-returns Inv-loop μ-loop
 returns c =
     let o = c .before .loop in
@@ -246,4 +266,7 @@ release-resolved-spec =
     add-released
     loop-less-4
     loop-again-4
+    enum-told-5
+    loop-less-5
+    loop-again-5
     returns)
