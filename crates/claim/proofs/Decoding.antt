@@ -13,9 +13,10 @@ use Rattle.lists.proofs.Cuts.{rest-more}
 use Rattle.rules.specs.Plain.{Plain}
 use Rattle.rules.specs.Words.{word}
 use Rattle.rules.specs.Calls.{Call, admission, absence, certify, abandonment, settled, returned, closes, fated, finalization, forget, terminal, stamp, prune}
+use Rattle.dispatch.specs.Changing.{callOf}
 use Rattle.claim.specs.declared.Replayed.{Replayed}
-use Rattle.claim.specs.Claim.{Claim}
-use Rattle.claim.specs.Calls.{callOf, decodeFrom, decode, kindOf, lentTo, wordsOf, encode, Roomy}
+use Rattle.claim.specs.Claim.{Lent, Claim}
+use Rattle.claim.specs.Calls.{decodeFrom, decode, kindOf, lentTo, wordsOf, encode, Roomy}
 
 drop-min : (l : List ℕ) (k j : ℕ) → j ≡ min k (length l) → drop j l ≡ drop k l
 drop-min l k j e = go (leb k (length l)) refl
@@ -42,7 +43,7 @@ decode-skip limit (suc k) (w ∷ ws) = decode-skip limit k ws
 -- the next call, and the words after it
 pub decode-next : (limit : ℕ) (ws : List ℕ) (at from end : ℕ) → at < length ws → from ≡ min (at + 3) (length ws) →
     end ≡ from + min (word (at + 2) ws) (length ws - from) →
-    decode limit (drop at ws) ≡ callOf limit (word at ws) (word (at + 1) ws) (take (end - from) (drop from ws)) ∷ decode limit (drop end ws)
+    decode limit (drop at ws) ≡ callOf (word at ws) (take (end - from) (drop from ws)) (min (word (at + 1) ws) limit) ∷ decode limit (drop end ws)
 decode-next limit ws at from end h f e =
     let n : ℕ = word (at + 2) ws in
     let rest : List ℕ = drop (at + 1) ws in
@@ -57,14 +58,14 @@ decode-next limit ws at from end h f e =
     let past : drop end ws ≡ drop (2 + n) rest =
     ap (λ k. drop k ws) e ∙ sym (drop-drop (min n (length ws - from)) from ws)
     ∙ drop-min (drop from ws) n (min n (length ws - from)) (simp length-drop) ∙ ap (drop n) body ∙ drop-drop n 2 rest in
-    let next : callOf limit (word at ws) (word 0 rest) (take (word 1 rest) (drop 2 rest)) ≡
-    callOf limit (word at ws) (word (at + 1) ws) (take (end - from) (drop from ws)) =
+    let next : callOf (word at ws) (take (word 1 rest) (drop 2 rest)) (min (word 0 rest) limit) ≡
+    callOf (word at ws) (take (end - from) (drop from ws)) (min (word (at + 1) ws) limit) =
     rw (room, many, part) in
     ap (decode limit) (rest-more 0 ws at h)
     ∙ ap₂ _∷_ next (decode-skip limit (2 + word 1 rest) rest ∙ ap (decode limit) (ap (λ k. drop (2 + k) rest) many ∙ sym past))
 
 -- what is written of one call is that call
-call-of : (limit : ℕ) (c : Call) → lentTo c ≤ limit → callOf limit (kindOf c) (lentTo c) (wordsOf c) ≡ c
+call-of : (limit : ℕ) (c : Call) → lentTo c ≤ limit → callOf (kindOf c) (wordsOf c) (min (lentTo c) limit) ≡ c
 unfolding callOf
 call-of limit (admission ws) h = refl
 call-of limit (absence t shard key) h = refl
@@ -86,14 +87,14 @@ decode-encode limit [] r = refl
 decode-encode limit (c ∷ cs) r =
     let ws : List ℕ = wordsOf c in
     let two : 2 + length ws ≡ suc (suc (length ws)) = omega arith in
-    let here : callOf limit (kindOf c) (lentTo c) (take (length ws) (ws ++ encode cs)) ≡ c =
-    ap (callOf limit (kindOf c) (lentTo c)) (take-append-seam ws (encode cs)) ∙ call-of limit c (r .0) in
+    let here : callOf (kindOf c) (take (length ws) (ws ++ encode cs)) (min (lentTo c) limit) ≡ c =
+    ap (λ l. callOf (kindOf c) l (min (lentTo c) limit)) (take-append-seam ws (encode cs)) ∙ call-of limit c (r .0) in
     let past : drop (2 + length ws) (lentTo c ∷ length ws ∷ (ws ++ encode cs)) ≡ encode cs = rw (two, drop-append-seam ws (encode cs)) in
     let rest : decodeFrom limit (2 + length ws) (lentTo c ∷ length ws ∷ (ws ++ encode cs)) ≡ cs =
     decode-skip limit (2 + length ws) (lentTo c ∷ length ws ∷ (ws ++ encode cs)) ∙ ap (decode limit) past ∙ decode-encode limit cs (r .1) in
     ap₂ _∷_ here rest
 
 -- so the claim of some words is the claim of every list of calls
-pub of-every-list : (start : Plain) (limit : ℕ) (cs : List Call) (clocks lent list : List ℕ) (r : Replayed) → Roomy limit cs →
-    Claim start (decode limit (encode cs)) clocks lent list r → Claim start cs clocks lent list r
-of-every-list start limit cs clocks lent list r h c = rw (decode-encode limit cs h) at c
+pub of-every-list : (start : Plain) (limit : ℕ) (cs : List Call) (clocks : List ℕ) (k : ℕ) (callList reportList countList : Lent) (r : Replayed) → Roomy limit cs →
+    Claim start (decode limit (encode cs)) clocks k callList reportList countList r → Claim start cs clocks k callList reportList countList r
+of-every-list start limit cs clocks k callList reportList countList r h c = rw (decode-encode limit cs h) at c

@@ -1,4 +1,6 @@
 pub mod Decoding
 pub mod Clocks
+pub mod Writing
+pub mod InTurn
 pub mod Pruning
 pub mod Claimed

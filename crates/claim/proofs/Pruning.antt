@@ -1,56 +1,28 @@
--- Prunes at times with room enough: each goes through, and its reports stand behind those of the prunes before it.
+-- A prune at a time with room enough goes through, and its reports and numbers stand behind those of the prunes before it.
 -- Assumes nothing.
 use Prim.Native.Nat.{ℕ, suc, _+_, _-_, _*_, _≤_, _<_}
-use mathlib.Core.Path.{_≡_, refl, sym, ap, _∙_}
-use mathlib.Core.Bool.{Bool, true, false, not}
-use mathlib.Core.List.{List, [], _∷_, _++_, append-assoc}
+use mathlib.Core.Path.{_≡_, refl, sym, ap, ap₂, _∙_}
+use mathlib.Core.Bool.{Bool, true, false, cond}
+use mathlib.Core.List.{List, [], _∷_, _++_, append-nil}
 use native.Mathlib.Omega.{arith}
-use borrow.Author.Tests.{le-ltb}
-use lib.ListN.{length, take, drop, getD, length-drop, length-take, length-append, length-map, take-append-drop}
-use lib.Seq.{length-take-le, take-at, drop-drop, drop-append-seam, drop-append-le, drop-append-add}
-use Rattle.lists.specs.Lists.{consIf, keep, concatMap}
-use Rattle.lists.proofs.Keep.{length-keep, concatMap-append}
+use lib.Dec.{ltb}
+use borrow.Author.Tests.{ltb-true, ltb-false}
+use lib.ListN.{length, take, drop, getD, set, length-append, length-set}
+use lib.Seq.{take-suc, take-all, take-nil, take-append-le, length-take-le}
+use Rattle.lists.specs.Lists.{concatMap}
 use Rattle.lists.proofs.Listing.{length-words}
-use Rattle.lists.proofs.Cuts.{rest-more}
 use Rattle.rules.specs.Numbers.{isTime}
-use Rattle.rules.specs.Plain.{Entry, Plain}
-use Rattle.rules.specs.Prune.{stands, isReported, ruleOf, reportWords, survivors, fallen, reports, pruned, prunes, allReports, allFallen}
+use Rattle.rules.specs.Plain.{Plain}
+use Rattle.rules.specs.Prune.{reportWords, fallen, reports, pruned, prunes, allReports, allFallen}
 use Rattle.rules.specs.Calls.{afterPrune}
 use Rattle.ledger.specs.declared.Ledger.{Ledger}
 use Rattle.ledger.specs.declared.Done.{Done}
 use Rattle.ledger.specs.Contents.{contents, Held}
 use Rattle.ledger.specs.Meets.{Meets, written}
-
--- what falls and what stands are as many as there were
-keep-split : (q : Entry → Bool) (l : List Entry) → length (keep (λ x. not (q x)) l) + length (keep q l) ≡ length l
-keep-split q [] = refl
-keep-split q (x ∷ l) = go (q x) (keep-split q l)
-  where
-    go : (b : Bool) → length (keep (λ x. not (q x)) l) + length (keep q l) ≡ length l →
-        length (consIf (not b) x (keep (λ x. not (q x)) l)) + length (consIf b x (keep q l)) ≡ suc (length l)
-    go true ih = omega arith
-    go false ih = omega arith
-
-fallen-split : (t : ℕ) (p : Plain) → length (fallen t p) + length (pruned t p .entries) ≡ length (p .entries)
-unfolding fallen survivors pruned
-fallen-split t p = keep-split (stands p t) (p .entries)
-
-reports-few : (t : ℕ) (p : Plain) → length (reports t p) ≤ length (fallen t p)
-unfolding reports
-reports-few t p = rw length-map (length-keep (λ e. isReported (ruleOf (p .local) e)) (fallen t p))
-
-prune-done : (t room : ℕ) (p : Plain) → isTime t ≡ true → 3 * length (reports t p) ≤ room →
-    afterPrune t room p ≡
-    record {
-      refused = 0;
-      answers = length (reports t p) ∷ length (fallen t p) ∷ [];
-      ledger = pruned t p;
-      words = concatMap reportWords (reports t p);
-    }
-unfolding afterPrune
-prune-done t room p v h =
-    let n : length (concatMap reportWords (reports t p)) ≤ room = omega (arith, length-words reportWords 3 (λ r. refl) (reports t p)) in
-    rw (v, le-ltb room (length (concatMap reportWords (reports t p))) n)
+use Rattle.claim.specs.declared.series.PrunedAll.{PrunedAll}
+use Rattle.claim.specs.Series.{allCounts, Series}
+use Rattle.claim.proofs.Writing.{lent-rest, two-behind}
+use Rattle.claim.proofs.InTurn.{prunes-append, reports-append, words-append, fallen-append, counts-append, count-size, fallen-split, reports-few, prune-done}
 
 -- what a prune says where the clock is a time and there is room for all
 pub record Prunes (t : ℕ) (p : Plain) (lent after : List ℕ) (r : Done) : Type 0 where
@@ -59,8 +31,8 @@ pub record Prunes (t : ℕ) (p : Plain) (lent after : List ℕ) (r : Done) : Typ
   pub ledger : contents (r .ledger) ≡ pruned t p
   pub wrote : after ≡ written (concatMap reportWords (reports t p)) lent
   pub held : Held (r .ledger)
-  pub few : length (reports t p) ≤ length (fallen t p)
-  pub size : length (fallen t p) + length (contents (r .ledger) .entries) ≡ length (p .entries)
+  pub few : r .answer ≤ r .fallen
+  pub size : r .fallen + length (contents (r .ledger) .entries) ≡ length (p .entries)
 
 pub goes-through : (t : ℕ) (p : Plain) (lent after : List ℕ) (r : Done) → isTime t ≡ true → 3 * length (p .entries) ≤ length lent →
     Meets (afterPrune t (length lent) p) lent after r → Prunes t p lent after r
@@ -74,91 +46,101 @@ goes-through t p lent after r v h m =
       ledger = n .ledger;
       wrote = n .wrote;
       held = n .held;
-      few = few;
-      size = ap (λ q. length (fallen t p) + length (q .entries)) (n .ledger) ∙ split;
+      few = omega (arith, n .fallen, n .answer, few);
+      size = ap₂ (λ k q. k + length (q .entries)) (n .fallen) (n .ledger) ∙ split;
     }
 
--- the words of one prune stand behind those of the prunes before it
-gathered : (l ws rest post : List ℕ) (at : ℕ) → at ≤ length l →
-    take (at + length ws) (take at l ++ ((ws ++ rest) ++ post)) ≡ take at l ++ ws
-gathered l ws rest post at h =
-    let n : length (take at l ++ ws) ≡ at + length ws = simp length-append (omega (arith, length-take-le at l h)) in
-    ap (take (at + length ws)) (simp append-assoc) ∙ take-at (take at l ++ ws) (rest ++ post) (at + length ws) n
-
--- with the reports still to come
-gather : (l lent after post : List ℕ) (at n : ℕ) (ws to all : List ℕ) → at ≤ length l → after ≡ written ws lent → n ≡ length ws →
-    take at l ++ (ws ++ to) ≡ all → take (at + n) (take at l ++ (after ++ post)) ++ to ≡ all
-gather l lent after post at n ws to all h w m e =
-    rw (w, m, gathered l ws (drop (length ws) lent) post at h, append-assoc) e
-
--- and behind them the list keeps its content
-beyond-of : (l ws after : List ℕ) (at n : ℕ) → at ≤ length l → n ≡ length ws → at + n ≤ length l →
-    after ≡ written ws (take (length l - at) (drop at l)) →
-    drop (at + n) (take at l ++ (after ++ drop (length l - at) (drop at l))) ≡ drop (at + n) l
-beyond-of l ws after at n h m k w =
-    let rest : List ℕ = drop at l in
-    let lent : List ℕ = take (length l - at) rest in
-    let post : List ℕ = drop (length l - at) rest in
-    let front : drop (at + n) (take at l ++ (after ++ post)) ≡ drop n (after ++ post) =
-    rw (length-take-le at l h) at (drop-append-add (take at l) (after ++ post) n) in
-    let spread : after ++ post ≡ ws ++ (drop (length ws) lent ++ post) = rw (w, append-assoc) in
-    let past : drop (length ws) (ws ++ (drop (length ws) lent ++ post)) ≡ drop (length ws) lent ++ post = drop-append-seam ws (drop (length ws) lent ++ post) in
-    let room : length ws ≤ length lent = simp (length-take, length-drop) (omega arith) in
-    let whole : drop (length ws) lent ++ post ≡ drop (length ws) rest =
-    sym (drop-append-le (length ws) lent post room) ∙ ap (drop (length ws)) (take-append-drop (length l - at) rest) in
-    front ∙ ap (drop n) spread ∙ ap (λ i. drop i (ws ++ (drop (length ws) lent ++ post))) m ∙ past ∙ whole ∙ ap (λ i. drop i rest) (sym m) ∙ drop-drop n at l
-
--- where the prunes stand after the first k clocks
-pub record Going (clocks : List ℕ) (start : Plain) (lent list : List ℕ) (ledger : Ledger) (gone many k : ℕ) : Type 0 where
-  pub below : k ≤ length clocks
-  pub same : length list ≡ length lent
-  pub held : Held ledger
+-- where the prunes stand after the first i clocks
+pub record Going (clocks : List ℕ) (start : Plain) (lent list lentCounts counts : List ℕ) (ledger between : Ledger) (gone many i k : ℕ) : Type 0 where
+  pub below : i ≤ length clocks
+  pub sized : length list ≡ length lent
+  pub countsSized : length counts ≡ length lentCounts
   pub few : many ≤ gone
   pub fits : gone + length (contents ledger .entries) ≤ 48
-  pub left : prunes (drop k clocks) (contents ledger) ≡ prunes clocks start
-  pub told : take (3 * many) list ++ concatMap reportWords (allReports (drop k clocks) (contents ledger)) ≡ concatMap reportWords (allReports clocks start)
-  pub beyond : drop (3 * many) list ≡ drop (3 * many) lent
-  pub fallen : gone + allFallen (drop k clocks) (contents ledger) ≡ allFallen clocks start
-  pub reports : many + length (allReports (drop k clocks) (contents ledger)) ≡ length (allReports clocks start)
+  pub room : 144 ≤ length list
+  pub counting : 2 * length clocks ≤ length counts
+  pub series : Series k (take i clocks) start lent list lentCounts counts (record { fallen = gone; written = many; between = between; ledger = ledger })
 
-pub going-on : (clocks : List ℕ) (start : Plain) (lent list : List ℕ) (ledger : Ledger) (gone many k : ℕ) →
-    Going clocks start lent list ledger gone many k → k < length clocks → 144 ≤ length lent → (after : List ℕ) (r : Done) →
+-- the ledger after the first k of the clocks gone through, before and after one more
+kept : (ts : List ℕ) (u k : ℕ) (p : Plain) (old new next : Ledger) → Held old → contents old ≡ prunes (take k ts) p → Held new →
+    contents new ≡ prunes (ts ++ (u ∷ [])) p → next ≡ cond (ltb (length ts) k) new old → Held next × (contents next ≡ prunes (take k (ts ++ (u ∷ []))) p)
+kept ts u k p old new next h e g f n = go (ltb (length ts) k) refl
+  where
+    go : (b : Bool) → ltb (length ts) k ≡ b → Held next × (contents next ≡ prunes (take k (ts ++ (u ∷ []))) p)
+    go true t =
+        let all = take-all k (ts ++ (u ∷ [])) (omega (arith, length-append ts (u ∷ []), ltb-true (length ts) k t)) in
+        let same : next ≡ new = n ∙ rw t refl in
+        (rw same g, ap contents same ∙ f ∙ ap (λ l. prunes l p) (sym all))
+    go false t =
+        let same : next ≡ old = n ∙ rw t refl in
+        (rw same h, ap contents same ∙ e ∙ ap (λ l. prunes l p) (sym (take-append-le k ts (u ∷ []) (ltb-false (length ts) k t))))
+
+pub going-on : (clocks : List ℕ) (start : Plain) (lent list lentCounts counts : List ℕ) (ledger between : Ledger) (gone many i k : ℕ) →
+    Going clocks start lent list lentCounts counts ledger between gone many i k → i < length clocks → (after : List ℕ) (r : Done) (next : Ledger) →
     let left = length list - 3 * many in
     let rest = drop (3 * many) list in
-    Prunes (getD clocks k 0) (contents ledger) (take left rest) after r →
+    Prunes (getD clocks i 0) (contents ledger) (take left rest) after r → next ≡ cond (ltb i k) (r .ledger) between →
     length (take (3 * many) list ++ (after ++ drop left rest)) ≡ length lent →
-    Going clocks start lent (take (3 * many) list ++ (after ++ drop left rest)) (r .ledger) (gone + r .fallen) (many + r .answer) (k + 1)
-going-on clocks start lent list ledger gone many k g h v after r t same =
+    Going clocks start lent (take (3 * many) list ++ (after ++ drop left rest)) lentCounts (set (set counts (2 * i) (r .answer)) (2 * i + 1) (r .fallen)) (r .ledger) next
+    (gone + r .fallen) (many + r .answer) (i + 1) k
+going-on clocks start lent list lentCounts counts ledger between gone many i k g h after r new t n same =
     let p : Plain = contents ledger in
-    let left : ℕ = length list - 3 * many in
-    let rest : List ℕ = drop (3 * many) list in
-    let u : ℕ = getD clocks k 0 in
-    let ts : List ℕ = drop (k + 1) clocks in
-    let next : drop k clocks ≡ u ∷ ts = rest-more 0 clocks k h in
-    let three : 3 * (many + r .answer) ≡ 3 * many + 3 * r .answer = omega arith in
-    let size : 3 * r .answer ≡ length (concatMap reportWords (reports u p)) =
-    ap (λ n. 3 * n) (t .answer) ∙ sym (length-words reportWords 3 (λ x. refl) (reports u p)) in
-    let spread : concatMap reportWords (allReports (drop k clocks) p) ≡ concatMap reportWords (reports u p) ++ concatMap reportWords (allReports ts (pruned u p)) =
-    ap (λ cs. concatMap reportWords (allReports cs p)) next ∙ concatMap-append reportWords (reports u p) (allReports ts (pruned u p)) in
-    let falls : allFallen (drop k clocks) p ≡ length (fallen u p) + allFallen ts (pruned u p) = ap (λ cs. allFallen cs p) next in
-    let tells : length (allReports (drop k clocks) p) ≡ length (reports u p) + length (allReports ts (pruned u p)) =
-    ap (λ cs. length (allReports cs p)) next ∙ length-append (reports u p) (allReports ts (pruned u p)) in
+    let u : ℕ = getD clocks i 0 in
+    let ts : List ℕ = take i clocks in
+    let s = g .series in
+    let words : 3 * many ≡ length (concatMap reportWords (allReports ts start)) =
+    ap (λ m. 3 * m) (s .many) ∙ sym (length-words reportWords 3 (λ x. refl) (allReports ts start)) in
+    let numbers : 2 * i ≡ length (allCounts ts start) =
+    ap (λ m. 2 * m) (sym (length-take-le i clocks (g .below))) ∙ sym (count-size ts start) in
+    let one-more : i + 1 ≡ suc i = omega arith in
+    let next : take (i + 1) clocks ≡ ts ++ (u ∷ []) = ap (λ j. take j clocks) one-more ∙ take-suc clocks i 0 h in
+    let one : allReports (u ∷ []) (prunes ts start) ≡ reports u p = ap (allReports (u ∷ [])) (sym (s .left)) ∙ append-nil (reports u p) in
+    let left : contents (r .ledger) ≡ prunes (ts ++ (u ∷ [])) start = t .ledger ∙ ap (pruned u) (s .left) ∙ sym (prunes-append ts (u ∷ []) start) in
+    let chosen : new ≡ cond (ltb (length ts) k) (r .ledger) between = n ∙ ap (λ j. cond (ltb j k) (r .ledger) between) (sym (length-take-le i clocks (g .below))) in
+    let k-th = kept ts u k start between (r .ledger) new (s .heldBetween) (s .leftBetween) (t .held) left chosen in
     record {
       below = omega arith;
-      same = same;
-      held = t .held;
-      few = omega (arith, g .few, t .few, t .answer, t .gone);
-      fits = omega (arith, g .fits, t .size, t .gone);
-      left = ap (prunes ts) (t .ledger) ∙ sym (ap (λ cs. prunes cs p) next) ∙ g .left;
-      told =
-          rw (t .ledger, three)
-          (gather list (take left rest) after (drop left rest) (3 * many) (3 * r .answer) (concatMap reportWords (reports u p)) (concatMap reportWords (allReports ts (pruned u p))) _
-          (omega (arith, g .few, g .fits, g .same)) (t .wrote) size (ap (λ ws. take (3 * many) list ++ ws) (sym spread) ∙ g .told));
-      beyond =
-          rw three
-          (beyond-of list (concatMap reportWords (reports u p)) after (3 * many) (3 * r .answer) (omega (arith, g .few, g .fits, g .same)) size
-          (omega (arith, g .few, g .fits, g .same, t .size, t .few, t .answer)) (t .wrote)
-          ∙ sym (drop-drop (3 * r .answer) (3 * many) list) ∙ ap (drop (3 * r .answer)) (g .beyond) ∙ drop-drop (3 * r .answer) (3 * many) lent);
-      fallen = rw (t .ledger) (omega (arith, g .fallen, falls, t .gone));
-      reports = rw (t .ledger) (omega (arith, g .reports, tells, t .answer));
+      sized = same;
+      countsSized = simp length-set (g .countsSized);
+      few = omega (arith, g .few, t .few);
+      fits = omega (arith, g .fits, t .size);
+      room = omega (arith, g .room, same, g .sized);
+      counting = simp length-set (g .counting);
+      series =
+          record {
+            held = t .held;
+            left = left ∙ ap (λ l. prunes l start) (sym next);
+            heldBetween = k-th .0;
+            leftBetween = k-th .1 ∙ ap (λ l. prunes (take k l) start) (sym next);
+            told =
+                lent-rest (concatMap reportWords (allReports ts start)) (concatMap reportWords (reports u p)) lent list after (3 * many) (s .told) words (t .wrote)
+                ∙ sym (ap (λ l. written l lent) (ap (λ l. concatMap reportWords (allReports l start)) next ∙ words-append ts (u ∷ []) start
+                ∙ ap (λ l. concatMap reportWords (allReports ts start) ++ concatMap reportWords l) one));
+            counted =
+                ap₂ (λ a b. set (set counts (2 * i) a) (2 * i + 1) b) (t .answer) (t .gone)
+                ∙ two-behind (allCounts ts start) lentCounts counts (2 * i) (length (reports u p)) (length (fallen u p)) (s .counted) numbers (omega (arith, g .counting, g .countsSized))
+                ∙ sym (ap (λ l. written l lentCounts) (ap (λ l. allCounts l start) next ∙ counts-append ts (u ∷ []) start ∙ ap (λ q. allCounts ts start ++ allCounts (u ∷ []) q) (sym (s .left))));
+            gone = omega (arith, s .gone, t .gone, ap (λ l. allFallen l start) next, fallen-append ts (u ∷ []) start, ap (allFallen (u ∷ [])) (s .left));
+            many = omega (arith, s .many, t .answer, ap (λ l. length (allReports l start)) next, ap length (reports-append ts (u ∷ []) start), length-append (allReports ts start) (allReports (u ∷ []) (prunes ts start)), ap length one);
+          };
     }
+
+-- before the first, and after the last
+pub begun : (clocks : List ℕ) (start : Ledger) (lent lentCounts : List ℕ) (k : ℕ) → Held start → 144 ≤ length lent →
+    2 * length clocks ≤ length lentCounts → Going clocks (contents start) lent lent lentCounts lentCounts start start 0 0 0 k
+begun clocks start lent lentCounts k h room counting =
+    record {
+      below = omega arith;
+      sized = refl;
+      countsSized = refl;
+      few = omega arith;
+      fits = omega (arith, h .good .entryCount);
+      room = room;
+      counting = counting;
+      series = record { held = h; left = refl; heldBetween = h; leftBetween = ap (λ l. prunes l (contents start)) (sym (take-nil k)); told = refl; counted = refl; gone = refl; many = refl };
+    }
+
+pub ended : (clocks : List ℕ) (start : Plain) (lent list lentCounts counts : List ℕ) (ledger between : Ledger) (gone many i k : ℕ) →
+    Going clocks start lent list lentCounts counts ledger between gone many i k → length clocks ≤ i →
+    Series k clocks start lent list lentCounts counts (record { fallen = gone; written = many; between = between; ledger = ledger })
+ended clocks start lent list lentCounts counts ledger between gone many i k g h = rw (take-all i clocks h) at (g .series)

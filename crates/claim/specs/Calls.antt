@@ -1,34 +1,18 @@
 -- A list of calls as words: for each its kind, the length of its lent list, the number of its words, and these words.
 use Prim.Native.Nat.{ℕ, zero, suc, _+_, _≤_, min}
-use mathlib.Core.Bool.{cond}
 use mathlib.Core.List.{List, [], _∷_, _++_}
-use lib.Dec.{eqb}
 use lib.ListN.{length, take, drop}
 use Rattle.lists.specs.Lists.{Every}
+use Rattle.rules.specs.Plain.{Plain}
 use Rattle.rules.specs.Words.{word}
-use Rattle.rules.specs.Calls.{Call, admission, absence, certify, abandonment, settled, returned, closes, fated, finalization, forget, terminal, stamp, prune}
+use Rattle.rules.specs.Calls.{Call, admission, absence, certify, abandonment, settled, returned, closes, fated, finalization, forget, terminal, stamp, prune, step}
+use Rattle.ledger.specs.Meets.{written}
+use Rattle.dispatch.specs.Changing.{callOf}
 
--- the call of a kind; words that are missing count as 0, and no call is lent more than `cap` words
-unfoldable pub callOf : ℕ → ℕ → ℕ → List ℕ → Call
-callOf cap kind room ws =
-    cond (eqb kind 1) (admission ws)
-    (cond (eqb kind 2) (absence (word 0 ws) (word 1 ws) (word 2 ws))
-    (cond (eqb kind 3) (certify (word 0 ws) (word 1 ws))
-    (cond (eqb kind 4) (abandonment ws)
-    (cond (eqb kind 5) (settled (word 0 ws) (word 1 ws))
-    (cond (eqb kind 6) (returned (word 0 ws) (word 1 ws))
-    (cond (eqb kind 7) (closes (min room cap))
-    (cond (eqb kind 8) (fated (word 0 ws))
-    (cond (eqb kind 9) (finalization ws)
-    (cond (eqb kind 10) (forget (word 0 ws))
-    (cond (eqb kind 11) (terminal (word 0 ws) (word 1 ws) (word 2 ws) (word 3 ws))
-    (cond (eqb kind 12) (stamp (word 0 ws) (word 1 ws))
-    (prune (word 0 ws) (min room cap)))))))))))))
-
--- the calls that the words hold after the first `skip` of them
+-- the calls that the words hold after the first `skip` of them; no call is lent more than `cap` words
 abbrev pub decodeFrom : ℕ → ℕ → List ℕ → List Call
 decodeFrom cap skip [] = []
-decodeFrom cap zero (w ∷ ws) = callOf cap w (word 0 ws) (take (word 1 ws) (drop 2 ws)) ∷ decodeFrom cap (2 + word 1 ws) ws
+decodeFrom cap zero (w ∷ ws) = callOf w (take (word 1 ws) (drop 2 ws)) (min (word 0 ws) cap) ∷ decodeFrom cap (2 + word 1 ws) ws
 decodeFrom cap (suc k) (w ∷ ws) = decodeFrom cap k ws
 
 abbrev pub decode : ℕ → List ℕ → List Call
@@ -87,3 +71,8 @@ encode (c ∷ cs) = kindOf c ∷ lentTo c ∷ length (wordsOf c) ∷ (wordsOf c 
 -- the lists that the calls are lent are no longer than cap
 abbrev pub Roomy : ℕ → List Call → Type 0
 Roomy cap cs = Every (λ c. lentTo c ≤ cap) cs
+
+-- the list of which every call is lent the front, after the calls: what one outcome writes, and then what the next
+abbrev pub lentAfter : List Call → Plain → List ℕ → List ℕ
+lentAfter [] p list = list
+lentAfter (c ∷ cs) p list = lentAfter cs (step c p .ledger) (written (step c p .words) list)

@@ -1,66 +1,66 @@
 -- The one claim of the third demand, about every list of calls and every list of clocks after it.
-use Prim.Native.Nat.{ℕ, _*_, _≤_, _<_}
+use Prim.Native.Nat.{ℕ, _*_, _<_}
 use mathlib.Core.Path.{_≡_}
-use mathlib.Core.Bool.{Bool, true, _&&_}
-use mathlib.Core.List.{List, [], _∷_}
+use mathlib.Core.Bool.{Bool, true, false, _&&_}
+use mathlib.Core.List.{List}
 use lib.Dec.{leb}
-use lib.ListN.{length, take, drop}
-use Rattle.lists.specs.Lists.{all, concatMap}
-use Rattle.rules.specs.Numbers.{isTime}
+use lib.ListN.{length, take}
+use Rattle.lists.specs.Lists.{concatMap}
 use Rattle.rules.specs.Plain.{Plain}
 use Rattle.rules.specs.Index.{index, names, listsRecord}
-use Rattle.rules.specs.Prune.{Report, reportWords, fallen, reports, pruned, prunes, allReports, allFallen, inOrder, Steady, lastOf}
-use Rattle.rules.specs.Calls.{Call, step, run}
+use Rattle.rules.specs.Prune.{reportWords, fallen, reports, pruned, prunes, allReports, allFallen, inOrder, lastOf}
+use Rattle.rules.specs.Calls.{Call, run}
 use Rattle.store.specs.Issuers as issuers
 use Rattle.store.specs.Issuers.{pairsIn}
 use Rattle.ledger.specs.declared.Ledger.{Ledger}
-use Rattle.ledger.specs.declared.Done.{Done}
 use Rattle.ledger.specs.Contents.{contents, Held}
-use Rattle.claim.specs.declared.PrunedAll.{PrunedAll}
+use Rattle.ledger.specs.Meets.{written}
 use Rattle.claim.specs.declared.Replayed.{Replayed}
+use Rattle.claim.specs.Calls.{lentAfter}
+use Rattle.claim.specs.Series.{steady, allCounts, firstsOf, secondsOf, reportsIn, AsCalls}
 
--- a call handed back a held ledger, which holds what the step says
-pub record Steps (c : Call) (p : Plain) (r : Done) : Type 0 where
-  pub held : Held (r .ledger)
-  pub ledger : contents (r .ledger) ≡ step c p .ledger
+-- a list that is lent, before and after
+pub record Lent : Type 0 where
+  pub was : List ℕ
+  pub is : List ℕ
 
--- clocks that are times and never fall, as a test
-abbrev pub steady : ℕ → List ℕ → Bool
-steady t [] = true
-steady t (u ∷ us) = leb t u && isTime u && steady u us
+abbrev pub lent : List ℕ → List ℕ → Lent
+lent was is = record { was = was; is = is }
 
--- a lent list read as reports, three words each
-abbrev pub reportsIn : List ℕ → List Report
-reportsIn [] = []
-reportsIn (t ∷ []) = []
-reportsIn (t ∷ c ∷ []) = []
-reportsIn (t ∷ c ∷ x ∷ ws) = record { transaction = t; covered = c; charge = x } ∷ reportsIn ws
-
--- prunes at each clock in turn, the reports one after the other at the front of the list
-pub record PrunesAll (clocks : List ℕ) (p : Plain) (lent list : List ℕ) (r : PrunedAll) : Type 0 where
-  pub held : Held (r .ledger)
-  pub left : contents (r .ledger) ≡ prunes clocks p
-  pub told : take (3 * r .written) list ≡ concatMap reportWords (allReports clocks p)
-  pub beyond : drop (3 * r .written) list ≡ drop (3 * r .written) lent
-  pub gone : r .fallen ≡ allFallen clocks p
-  pub many : r .written ≡ length (allReports clocks p)
-
--- 'local, spans, entries, index, departures and count equal the plain ledger's in every field': all but the index is in the
--- contents; the index holds the pairs that the plain ledger's is, and these are just the record and owed transaction that lists it.
+-- The ledger is one that calls hand back, and 'local, spans, entries, index, departures and count equal the plain ledger's in every
+-- field': all but the index is in the contents; the index holds the pairs that the plain ledger's is, and these are just the record and
+-- owed transaction that lists it. Shuts out a ledger whose entries are right and whose roster has other keys (`held`), one whose entry
+-- differs in a field that no answer shows (`fields`), and an index that lacks a pair or has one too many (`pairs`, `named`).
 pub record Equals (p : Plain) (l : Ledger) : Type 0 where
+  pub held : Held l
   pub fields : contents l ≡ p
   pub pairs : issuers.Holds (index p) (l .issuers)
   pub named : (recordKey transaction : ℕ) → names (pairsIn (l .issuers)) recordKey transaction ≡ listsRecord p recordKey transaction
 
--- 'the clocks after it', at least one, each a time, none before the one that it follows
-pub record Clocks (clocks : List ℕ) : Type 0 where
-  pub some : 0 < length clocks
-  pub times : all isTime clocks ≡ true
-  pub steady : Steady 0 clocks
+-- 'a valid clock is a time', 'never-falling'; room for a report of each of the 48 entries, and for two numbers of each prune
+abbrev pub mayPrune : List ℕ → List ℕ → List ℕ → Bool
+mayPrune clocks reportList countList = steady 0 clocks && (leb 144 (length reportList) && leb (2 * length clocks) (length countList))
 
--- What one prune of p at the last clock gives, of a replay that was lent a list for reports, left it as `list` and handed back r.
-pub record Pruned (p : Plain) (last : ℕ) (lent list : List ℕ) (r : Replayed) : Type 0 where
-  -- 'after the prunes, those of the plain ledger pruned once'
+-- 'Each call or prune gets the ledger that the last one handed back': the prunes are made at each clock in turn. k is the caller's choice, so the
+-- ledger is known after each of them, with its index; k = 0 is the ledger before the prunes. One list of 144 words in all is lent for the
+-- reports, and not one for each prune: that is the stronger claim, for a prune here has room for no more than the entries that still
+-- stand and is refused no more than with room for 48 (`calls`), and what each wrote is still there after the last.
+pub record InTurn (p : Plain) (clocks : List ℕ) (k : ℕ) (reportList countList : Lent) (r : Replayed) : Type 0 where
+  -- shuts out prunes at the last clock alone, the first clock left out, or clocks in another order: for some k the ledger differs
+  pub between : Equals (prunes (take k clocks) p) (r .between)
+  pub after : Equals (prunes clocks p) (r .after)
+  -- 'report': shuts out reports in the one prune's order, a report written twice, and any word changed beyond the last report
+  pub told : reportList .is ≡ written (concatMap reportWords (allReports clocks p)) (reportList .was)
+  -- shuts out one prune that fells all where each should fell some, and the two numbers of a prune exchanged
+  pub counted : countList .is ≡ written (allCounts clocks p) (countList .was)
+  pub gone : r .fallen ≡ allFallen clocks p
+  pub many : r .written ≡ length (allReports clocks p)
+  -- each is the changing call `prune` with room for 48 reports, accepted, with these words and answers
+  pub calls : AsCalls clocks p
+
+-- 'and leave and report what one prune at the last would'
+pub record AsOne (p : Plain) (clocks : List ℕ) (last : ℕ) (reportList countList : Lent) (r : Replayed) : Type 0 where
+  -- 'after the prunes, those of the plain ledger pruned once': shuts out an entry that falls between two clocks and not at the last
   pub left : Equals (pruned last p) (r .after)
   -- 'with local, spans and count unchanged'
   pub local : r .after .local .0 ≡ r .before .local .0
@@ -68,21 +68,37 @@ pub record Pruned (p : Plain) (last : ℕ) (lent list : List ℕ) (r : Replayed)
   pub coreSpan : r .after .«core_span» ≡ r .before .«core_span»
   pub legSpan : r .after .«leg_span» ≡ r .before .«leg_span»
   pub rebuilt : r .after .rebuilt ≡ r .before .rebuilt
-  -- 'the reports, put in transaction order, equal the one prune's word for word'
-  pub told : inOrder (reportsIn (take (3 * r .written) list)) ≡ reports last p
-  pub words : concatMap reportWords (inOrder (reportsIn (take (3 * r .written) list))) ≡ concatMap reportWords (reports last p)
-  -- 'words beyond an accepted list keep their content'
-  pub beyond : drop (3 * r .written) list ≡ drop (3 * r .written) lent
-  -- 'the numbers fallen and of reports written add up to its own'
+  -- 'the reports, put in transaction order, equal the one prune's word for word': shuts out a report lost, doubled or with another charge
+  pub told : inOrder (reportsIn (take (3 * r .written) (reportList .is))) ≡ reports last p
+  pub words : concatMap reportWords (inOrder (reportsIn (take (3 * r .written) (reportList .is)))) ≡ concatMap reportWords (reports last p)
+  -- 'the numbers fallen and of reports written add up to its own': the sums handed back, and those of the single prunes
   pub gone : r .fallen ≡ length (fallen last p)
   pub many : r .written ≡ length (reports last p)
+  pub addedFallen : secondsOf (take (2 * length clocks) (countList .is)) ≡ length (fallen last p)
+  pub addedWritten : firstsOf (take (2 * length clocks) (countList .is)) ≡ length (reports last p)
+
+-- where the clocks fall or are no times, or a list is too short, no prune is made: the ledger before is handed back, both numbers are 0 and
+-- neither list is touched. Shuts out a program that answers or writes anything there.
+pub record NoPrune (reportList countList : Lent) (r : Replayed) : Type 0 where
+  pub between : r .between ≡ r .before
+  pub after : r .after ≡ r .before
+  pub gone : r .fallen ≡ 0
+  pub many : r .written ≡ 0
+  pub reports : reportList .is ≡ reportList .was
+  pub counts : countList .is ≡ countList .was
 
 -- The claim about a list of calls and the clocks after it, from a ledger that holds `start`; `start` is fed nothing but the calls'
--- arguments and the lengths of their lent lists. 'Each call or prune gets the ledger that the last one handed back': so does `run`, and
--- so do the prunes that are one at the last clock. It holds of every list of calls (`decode` reaches each, proofs/Decoding.antt) and of
--- every list of clocks, so also after each call and after each prune.
-pub record Claim (start : Plain) (calls : List Call) (clocks lent list : List ℕ) (r : Replayed) : Type 0 where
-  -- 'after the list, local, spans, entries, index, departures and count equal the plain ledger's in every field'
+-- arguments and the lengths of their lent lists. It holds of every list of calls (`decode` reaches each, proofs/Decoding.antt) and of every
+-- list of clocks, so also after each call.
+pub record Claim (start : Plain) (calls : List Call) (clocks : List ℕ) (k : ℕ) (callList reportList countList : Lent) (r : Replayed) : Type 0 where
+  -- 'after the list, local, spans, entries, index, departures and count equal the plain ledger's in every field': shuts out a call left out, made
+  -- twice or made with a longer list than it was lent
   pub listed : Equals (run calls start) (r .before)
-  -- 'after the prunes', with room for a report of each of the 48 entries
-  pub pruned : Clocks clocks → 144 ≤ length lent → Pruned (run calls start) (lastOf 0 clocks) lent list r
+  -- 'words beyond an accepted list keep their content', and a refusal changes no list: shuts out a call that writes more than its outcome says
+  pub wrote : callList .is ≡ lentAfter calls start (callList .was)
+  -- shuts out a program that refuses all clocks
+  pub made : r .made ≡ mayPrune clocks (reportList .was) (countList .was)
+  pub inTurn : r .made ≡ true → InTurn (run calls start) clocks k reportList countList r
+  -- of no clock there is no last
+  pub asOne : r .made ≡ true → 0 < length clocks → AsOne (run calls start) clocks (lastOf 0 clocks) reportList countList r
+  pub noPrune : r .made ≡ false → NoPrune reportList countList r

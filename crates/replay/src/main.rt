@@ -8,8 +8,8 @@ mod turns;
 
 use calls::making;
 use script::calls::DUMP;
+use script::calls::NEW;
 use script::calls::QUESTIONS;
-use turns::NO_CALL;
 use types::Shard;
 
 // Line by line to the end of the script, or to a line that is malformed or names a call that is not there. `times` is 0 unless
@@ -37,15 +37,17 @@ fn main() {
             times = turns::waiting(code, times, numbers[0]);
             continue;
         }
-        let mut said = [NO_CALL, 0, 0];
-        if code < QUESTIONS {
-            ledger = changing::apply(ledger, line, &numbers, &mut lent, times, &mut said);
-        } else {
-            reading::ask(ledger, line, &numbers, &mut lent, times, &mut said);
-        }
-        if said[0] == NO_CALL {
+        if code < NEW {
             replies::stop(&mut output, out, at);
             return;
+        }
+        let mut said = [0u64; 3];
+        if code == NEW {
+            ledger = changing::renew(&numbers, times, &mut said);
+        } else if code < QUESTIONS {
+            ledger = changing::apply(ledger, line, &numbers, &mut lent, times, &mut said);
+        } else if code < DUMP {
+            reading::ask(ledger, line, &numbers, &mut lent, times, &mut said);
         }
         out = replies::put_answers(&mut output, out, code, &said);
         if code == DUMP {

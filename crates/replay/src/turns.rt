@@ -1,10 +1,8 @@
-// How often a line's call is made, and what its list holds before each time.
-use script::FILL;
+// How often a line's call is made.
+ghost use mathlib.Core.Path.{_≡_};
+ghost use Rattle.replay.specs.Lines.{turnsOf};
 use script::calls::REPEAT;
 use script::calls::SKIP;
-
-// What stands for a refusal where the program has no such call.
-pub const NO_CALL: u64 = 0xffff_ffff_ffff_ffff;
 
 // A line to skip, or a `repeat` where none waits for its call already.
 pub fn is_no_call(code: u8, times: u64) -> bool {
@@ -17,15 +15,8 @@ pub fn waiting(code: u8, times: u64, first: u64) -> u64 {
 }
 
 // As often as a `repeat` before the line says; times is 0 where none stands there.
-pub fn turns_of(times: u64) -> u64 {
+pub fn turns_of(times: u64) -> u64
+    ensures { λ r. ⌜ r ≡ turnsOf times ⌝ }
+{
     if times == 0 { 1 } else { times }
-}
-
-pub fn fill(lent: &mut [u64]) {
-    let n = lent.len();
-    let mut i = 0;
-    while i < n {
-        lent[i] = FILL;
-        i += 1;
-    }
 }

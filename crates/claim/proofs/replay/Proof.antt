@@ -16,10 +16,15 @@ same-length c = search needs
 same-length-2 : tie.Need-same-length-2
 same-length-2 c = search needs
 
+same-length-3 : tie.Need-same-length-3
+same-length-3 c = search needs
+
 returns : tie.Need-returns
 returns c =
-    let a = c .before .before .before .before in
-    rw (a .before .before .before .new .ensures .ledger) at (a .replay-from .ensures)
+    let a = c .before .before .before .before .before .before in
+    rw (a .before .before .before .before .new .ensures .ledger) at (a .replay-from .ensures)
 
 pub replay-spec : {M : Type 1} → statement M
-replay-spec = tie.close (tie.spec new-requires replay-from-requires same-length same-length-2 returns)
+replay-spec =
+    tie.close
+    (tie.spec new-requires replay-from-requires same-length same-length-2 same-length-3 returns)

@@ -1,45 +1,39 @@
--- `replay_from` meets its contract: the calls give the first half of the claim, and the prunes the second where the clocks and the room allow it.
+-- `replay_from` meets its contract: the calls give the first part of the claim, and the prunes the others where they are made.
 -- Assumes nothing.
 use borrow.Author.Needs.{needs}
-use Prim.Native.Nat.{_-_}
 use mathlib.Core.Path.{sym, _∙_}
-use mathlib.Core.Bool.{false≢true}
-use native.Mathlib.Omega.{arith}
 use borrow.Author.Tests.{not-true, not-false}
-use Rattle.claim.proofs.Clocks.{steady-of}
-use Rattle.claim.proofs.Claimed.{equals, claimed}
+use Rattle.claim.proofs.Claimed.{May, may, unpruned, all-pruned}
 use Rattle.claim.proofs.replay_from.Statement.{statement}
 use Rattle.claim.proofs.replay_from.Tie as tie
 
+-- what the test says where it is passed
+passed : (c : tie.Else1) →
+    let a = c .before .before .before .before .before .before .before .before .before .before .before .args in
+    May (a .clocks .now) (a .reports .now) (a .counts .now)
+passed c = may _ _ _ (sym (c .before .may-prune .ensures) ∙ not-false _ (c .if1 .left))
+
 run-calls-requires : tie.Need-run-calls-requires
 run-calls-requires c κs = search needs
+
+may-prune-requires : tie.Need-may-prune-requires
+may-prune-requires c κs = search needs
 
 same-length : tie.Need-same-length
 same-length c = search needs
 
 returns : tie.Need-returns
 returns c =
-    let a = c .before .before .before in
-    record { listed = equals _ _ (a .run-calls .ensures .0) (a .run-calls .ensures .1); pruned = λ n h. absurd (omega (arith, c .if1 .taken)) }
+    let a = c .before .before .before .before .run-calls .ensures in
+    unpruned _ _ _ _ _ _ _ _ _ (a .0) (a .1) (a .2) (sym (c .before .may-prune .ensures) ∙ not-true _ (c .if1 .taken))
 
-steadily-requires : tie.Need-steadily-requires
-steadily-requires c κs = search needs
+prune-all-requires : tie.Need-prune-all-requires
+prune-all-requires c κs =
+    let m = passed (c .before .before) in
+    (c .before .before .before .before .before .before .run-calls .ensures .0, m .times, m .reports, m .counts)
 
 same-length-2 : tie.Need-same-length-2
 same-length-2 c = search needs
-
-returns-2 : tie.Need-returns-2
-returns-2 c =
-    let a = c .before .before .before .before .before in
-    let clocks = a .before .before .before .before .before .before .args .clocks .now in
-    let falls = sym (not-true _ (c .if2 .taken)) ∙ c .before .steadily .ensures in
-    record {
-      listed = equals _ _ (a .run-calls .ensures .0) (a .run-calls .ensures .1);
-      pruned = λ n h. absurd (false≢true (falls ∙ steady-of 0 clocks (n .steady) (n .times)));
-    }
-
-prune-all-requires : tie.Need-prune-all-requires
-prune-all-requires c κs = (search needs, sym (c .before .before .steadily .ensures) ∙ not-false _ (c .before .if2 .left), search needs)
 
 same-length-3 : tie.Need-same-length-3
 same-length-3 c = search needs
@@ -47,26 +41,23 @@ same-length-3 c = search needs
 same-length-4 : tie.Need-same-length-4
 same-length-4 c = search needs
 
-returns-3 : tie.Need-returns-3
-returns-3 c =
-    let q = c .before .before .before in
-    let a = q .before .before .before .before .before .before .before in
-    record {
-      listed = equals _ _ (a .run-calls .ensures .0) (a .run-calls .ensures .1);
-      pruned = λ n h. claimed _ _ _ _ _ (a .run-calls .ensures .0) (a .run-calls .ensures .1) (q .prune-all .ensures) n;
-    }
+returns-2 : tie.Need-returns-2
+returns-2 c =
+    let q = c .before .before .before .before .before .before in
+    let e = q .before .before .before in
+    let a = e .before .before .before .before .run-calls .ensures in
+    all-pruned _ _ _ _ _ _ _ _ _ _ _ _ (a .0) (a .1) (a .2) (sym (e .before .may-prune .ensures) ∙ not-false _ (e .if1 .left)) (q .prune-all .ensures)
 
 pub replay-from-spec : {M : Type 1} → statement M
 replay-from-spec =
     tie.close
     (tie.spec
     run-calls-requires
+    may-prune-requires
     same-length
     returns
-    steadily-requires
-    same-length-2
-    returns-2
     prune-all-requires
+    same-length-2
     same-length-3
     same-length-4
-    returns-3)
+    returns-2)

@@ -2,17 +2,20 @@
 -- Assumes nothing.
 use borrow.Author.Needs.{needs}
 use Prim.Native.Nat.{_≤_, _-_, _+_, min}
-use mathlib.Core.Path.{_≡_, ap, _∙_}
+use mathlib.Core.Path.{_≡_, ap, ap₂, _∙_}
 use native.Mathlib.Omega.{arith}
-use lib.ListN.{length, drop}
+use lib.ListN.{length, drop, take, length-take}
+use lib.Seq.{length-front}
 use Rattle.lists.proofs.Cuts.{rest-none}
 use Rattle.rules.specs.Words.{word}
-use Rattle.rules.specs.Calls.{run}
+use Rattle.rules.specs.Calls.{step, run}
 use Rattle.ledger.specs.Contents.{contents, Held}
-use Rattle.claim.specs.Calls.{decode}
+use Rattle.dispatch.specs.Changing.{callOf}
+use Rattle.claim.specs.Calls.{decode, lentAfter}
 use Rattle.claim.proofs.Decoding.{decode-next}
-use Rattle.claim.proofs.run_calls.Statement.{statement}
-use Rattle.claim.proofs.run_calls.Tie as tie
+use Rattle.claim.proofs.Writing.{lent-front}
+use Rattle.claim.proofs.running.run_calls.Statement.{statement}
+use Rattle.claim.proofs.running.run_calls.Tie as tie
 
 abbrev Inv-loop : tie.InvT-loop
 Inv-loop calls lent₀ ledger₀ at₀ lent ledger at =
@@ -20,6 +23,7 @@ Inv-loop calls lent₀ ledger₀ at₀ lent ledger at =
     × (length lent ≡ length lent₀)
     × Held ledger
     × (run (decode (length lent₀) (drop at calls)) (contents ledger) ≡ run (decode (length lent₀) calls) (contents ledger₀))
+    × (lentAfter (decode (length lent₀) (drop at calls)) (contents ledger) lent ≡ lentAfter (decode (length lent₀) calls) (contents ledger₀) lent₀)
 
 abbrev μ-loop : tie.MeasureT-loop
 μ-loop calls lent₀ ledger₀ at₀ lent ledger at = length calls - at
@@ -36,6 +40,9 @@ add-word-at c = search needs
 word-at-requires-2 : tie.Need-word-at-requires-2 Inv-loop μ-loop
 word-at-requires-2 c κs = search needs
 
+at-most-requires : tie.Need-at-most-requires Inv-loop μ-loop
+at-most-requires c κs = search needs
+
 add-word-at-2 : tie.Need-add-word-at-2 Inv-loop μ-loop
 add-word-at-2 c = search needs
 
@@ -45,14 +52,14 @@ word-at-requires-3 c κs = search needs
 add-at-most : tie.Need-add-at-most Inv-loop μ-loop
 add-at-most c = search needs
 
-at-most-requires : tie.Need-at-most-requires Inv-loop μ-loop
-at-most-requires c κs = search needs
+at-most-requires-2 : tie.Need-at-most-requires-2 Inv-loop μ-loop
+at-most-requires-2 c κs = search needs
 
 sub-at-most : tie.Need-sub-at-most Inv-loop μ-loop
 sub-at-most c = search needs
 
-at-most-requires-2 : tie.Need-at-most-requires-2 Inv-loop μ-loop
-at-most-requires-2 c κs = search needs
+at-most-requires-3 : tie.Need-at-most-requires-3 Inv-loop μ-loop
+at-most-requires-3 c κs = search needs
 
 add-end : tie.Need-add-end Inv-loop μ-loop
 add-end c = search needs
@@ -69,6 +76,12 @@ part-apply-start c = search needs
 part-apply-end : tie.Need-part-apply-end Inv-loop μ-loop
 part-apply-end c = search needs
 
+slice-relend-prefix-apply : tie.Need-slice-relend-prefix-apply Inv-loop μ-loop
+slice-relend-prefix-apply c = search needs
+
+slice-aggregate-apply : tie.Need-slice-aggregate-apply Inv-loop μ-loop
+slice-aggregate-apply c = simp length-take (omega arith)
+
 apply-requires : tie.Need-apply-requires Inv-loop μ-loop
 apply-requires c κs = search needs
 
@@ -78,20 +91,33 @@ loop-less c = search needs
 loop-again : tie.Need-loop-again Inv-loop μ-loop
 loop-again c =
     let a = c .before .before .before in
-    let m2 = a .before .before .before in
-    let m = m2 .before in
-    let w3 = m .before in
-    let w2 = w3 .before in
+    let m3 = a .before .before .before in
+    let m2 = m3 .before in
+    let w3 = m2 .before in
+    let m = w3 .before in
+    let w2 = m .before in
     let w = w2 .before in
     let l = w .before .before .loop in
     let s = w .before .before .before .before .before in
     let ws = s .args .calls .now in
     let limit = length (s .args .lent .now) in
-    let end = m .at-most .result + m2 .at-most2 .result in
-    let e : m2 .at-most2 .result ≡ min (word (l .at + 2) ws) (length ws - m .at-most .result) = m2 .at-most2 .ensures ∙ rw (w3 .word-at3 .ensures) in
-    let next = decode-next limit ws (l .at) (m .at-most .result) end (omega arith) (m .at-most .ensures) (ap (λ k. m .at-most .result + k) e) in
-    let did = simp (w .word-at .ensures, w2 .word-at2 .ensures, l .inv .1) at (a .apply .ensures .ledger) in
-    (search needs, c .before .before .lent .given ∙ l .inv .1, a .apply .ensures .held, ap (run (decode limit (drop end ws))) did ∙ (rw next at (l .inv .3)))
+    let room = m .at-most .result in
+    let from = m2 .at-most2 .result in
+    let end = from + m3 .at-most3 .result in
+    let counted : m3 .at-most3 .result ≡ min (word (l .at + 2) ws) (length ws - from) = m3 .at-most3 .ensures ∙ rw (w3 .word-at3 .ensures) in
+    let lent-on : length (take room (l .lent)) ≡ min (word (l .at + 1) ws) limit =
+    simp length-take (omega (arith, m .at-most .ensures, w2 .word-at2 .ensures, l .inv .1)) in
+    let next = decode-next limit ws (l .at) from end (omega arith) (m2 .at-most2 .ensures) (ap (λ k. from + k) counted) in
+    let did = simp (w .word-at .ensures, lent-on) at (a .apply .ensures) in
+    let call = callOf (word (l .at) ws) (take (end - from) (drop from ws)) (min (word (l .at + 1) ws) limit) in
+    let last = a .apply .last .1 .1 .1 .0 in
+    let rest = decode limit (drop end ws) in (
+      search needs,
+      length-front (l .lent) last room (a .apply .kept .1 .1 .1 .0) ∙ l .inv .1,
+      did .held,
+      ap (run rest) (did .ledger) ∙ (rw next at (l .inv .3)),
+      ap₂ (lentAfter rest) (did .ledger) (lent-front (step call (contents (l .ledger)) .words) (l .lent) last room (did .wrote) (a .apply .kept .1 .1 .1 .0)) ∙ (rw next at (l .inv .4)),
+    )
 
 same-length : tie.Need-same-length Inv-loop μ-loop
 same-length c = search needs
@@ -99,8 +125,8 @@ same-length c = search needs
 returns : tie.Need-returns Inv-loop μ-loop
 returns c =
     let l = c .before .loop in
-    let ws = c .before .before .before .before .args .calls .now in
-    (l .inv .2, rw (rest-none ws (l .at) (omega arith)) at (l .inv .3))
+    let end = rest-none (c .before .before .before .before .args .calls .now) (l .at) (omega arith) in
+    (l .inv .2, rw end at (l .inv .3), rw end at (l .inv .4))
 
 pub run-calls-spec : {M : Type 1} → statement M
 run-calls-spec =
@@ -112,17 +138,20 @@ run-calls-spec =
     word-at-requires
     add-word-at
     word-at-requires-2
+    at-most-requires
     add-word-at-2
     word-at-requires-3
     add-at-most
-    at-most-requires
-    sub-at-most
     at-most-requires-2
+    sub-at-most
+    at-most-requires-3
     add-end
     mul-apply
     sub-apply
     part-apply-start
     part-apply-end
+    slice-relend-prefix-apply
+    slice-aggregate-apply
     apply-requires
     loop-less
     loop-again

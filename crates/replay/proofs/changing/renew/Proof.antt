@@ -1,0 +1,84 @@
+-- `renew` meets its contract: every turn makes the same ledger.
+-- Assumes nothing.
+use borrow.Author.Needs.{needs}
+use mathlib.Core.List.{[]}
+use Rattle.rules.specs.Calls.{making}
+use Rattle.ledger.specs.Meets.{Meets}
+use Rattle.replay.proofs.Said.{done-by}
+use Rattle.replay.proofs.changing.renew.Statement.{statement}
+use Rattle.replay.proofs.changing.renew.Tie as tie
+
+abbrev Inv-loop : tie.InvT-loop
+Inv-loop numbers times said local validity core-span leg-span done₀ left₀ done left = Meets (making (local .0) validity core-span leg-span) [] [] done
+
+abbrev μ-loop : tie.MeasureT-loop
+μ-loop numbers times said local validity core-span leg-span done₀ left₀ done left = left
+
+element-copy-out-validity : tie.Need-element-copy-out-validity Inv-loop μ-loop
+element-copy-out-validity c = search needs
+
+element-copy-out-validity-2 : tie.Need-element-copy-out-validity-2 Inv-loop μ-loop
+element-copy-out-validity-2 c = search needs
+
+element-copy-out-core-span : tie.Need-element-copy-out-core-span Inv-loop μ-loop
+element-copy-out-core-span c = search needs
+
+element-copy-out-leg-span : tie.Need-element-copy-out-leg-span Inv-loop μ-loop
+element-copy-out-leg-span c = search needs
+
+new-requires : tie.Need-new-requires Inv-loop μ-loop
+new-requires c κs = search needs
+
+turns-of-requires : tie.Need-turns-of-requires Inv-loop μ-loop
+turns-of-requires c κs = search needs
+
+loop-holds : tie.Need-loop-holds Inv-loop μ-loop
+loop-holds c = c .before .new .ensures
+
+sub-left : tie.Need-sub-left Inv-loop μ-loop
+sub-left c = search needs
+
+new-requires-2 : tie.Need-new-requires-2 Inv-loop μ-loop
+new-requires-2 c κs = search needs
+
+loop-less : tie.Need-loop-less Inv-loop μ-loop
+loop-less c = search needs
+
+loop-again : tie.Need-loop-again Inv-loop μ-loop
+loop-again c = c .new2 .ensures
+
+element-write-said : tie.Need-element-write-said Inv-loop μ-loop
+element-write-said c = search needs
+
+element-write-said-2 : tie.Need-element-write-said-2 Inv-loop μ-loop
+element-write-said-2 c = search needs
+
+element-write-said-3 : tie.Need-element-write-said-3 Inv-loop μ-loop
+element-write-said-3 c = search needs
+
+returns : tie.Need-returns Inv-loop μ-loop
+returns c =
+    let s = c .before .before .before .before .before .before .before .before .before in
+    rw (done-by (s .args .said .now) _ _ _ _ (s .pre)) (c .before .before .loop .inv)
+
+pub renew-spec : {M : Type 1} → statement M
+renew-spec =
+    tie.close
+    (tie.spec
+    Inv-loop
+    μ-loop
+    element-copy-out-validity
+    element-copy-out-validity-2
+    element-copy-out-core-span
+    element-copy-out-leg-span
+    new-requires
+    turns-of-requires
+    loop-holds
+    sub-left
+    new-requires-2
+    loop-less
+    loop-again
+    element-write-said
+    element-write-said-2
+    element-write-said-3
+    returns)
