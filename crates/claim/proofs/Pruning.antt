@@ -19,7 +19,6 @@ use Rattle.ledger.specs.declared.Ledger.{Ledger}
 use Rattle.ledger.specs.declared.Done.{Done}
 use Rattle.ledger.specs.Contents.{contents, Held}
 use Rattle.ledger.specs.Meets.{Meets, written}
-use Rattle.claim.specs.declared.series.PrunedAll.{PrunedAll}
 use Rattle.claim.specs.Series.{allCounts, Series}
 use Rattle.claim.proofs.Writing.{lent-rest, two-behind}
 use Rattle.claim.proofs.InTurn.{prunes-append, reports-append, words-append, fallen-append, counts-append, count-size, fallen-split, reports-few, prune-done}

@@ -1,11 +1,11 @@
 -- Words written to the front of a list: behind others, two at a time, and through a part of the list that is lent on.
 -- Assumes nothing.
 use Prim.Native.Nat.{ℕ, suc, _+_, _-_, _≤_}
-use mathlib.Core.Path.{_≡_, refl, sym, ap, ap₂, _∙_}
+use mathlib.Core.Path.{_≡_, sym, ap, ap₂, _∙_}
 use mathlib.Core.List.{List, [], _∷_, _++_, append-assoc, append-nil}
 use native.Mathlib.Omega.{arith}
-use lib.ListN.{length, take, drop, set, length-drop, length-take, length-append, take-append-drop}
-use lib.Seq.{sets, take-all, drop-drop, take-append-seam, drop-append-seam, drop-append-le, length-take-le}
+use lib.ListN.{length, take, drop, set, length-drop, length-append, take-append-drop}
+use lib.Seq.{sets, take-all, drop-drop, take-append-seam, drop-append-seam, drop-append-le}
 use Rattle.lists.proofs.Listing.{sets-append, sets-front}
 use Rattle.lists.proofs.Cuts.{rest-none}
 use Rattle.ledger.specs.Meets.{written}

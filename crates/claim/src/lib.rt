@@ -3,7 +3,6 @@
 mod running;
 pub mod series;
 
-ghost use mathlib.Core.Path.{_≡_};
 ghost use lib.ListN.{length};
 ghost use Rattle.rules.specs.Calls.{making};
 ghost use Rattle.ledger.specs.Contents.{Held, contents};

@@ -5,9 +5,7 @@ use mathlib.Core.List.{List, [], _∷_, _++_, map}
 use lib.ListN.{take, drop}
 use Rattle.rules.specs.Words.{word}
 use Rattle.rules.specs.Calls as rules
-use Rattle.rules.specs.Calls.{Call}
 use Rattle.rules.specs.Readings as readings
-use Rattle.rules.specs.Readings.{Reading}
 use Rattle.dispatch.specs.Changing.{callOf}
 use Rattle.dispatch.specs.Reading.{readingOf}
 use Rattle.script.specs.Calls.{firstNames, secondNames, thirdNames, codeOf}

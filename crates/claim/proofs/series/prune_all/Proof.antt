@@ -4,7 +4,6 @@ use borrow.Author.Needs.{needs}
 use Prim.Native.Nat.{_+_, _-_, _*_, _≤_}
 use mir.Syntax.{w64}
 use mir.Val.{Fits}
-use mathlib.Core.Path.{_≡_, _∙_}
 use native.Mathlib.Omega.{arith}
 use lib.ListN.{length, getD, take, drop, length-take, length-drop, length-set}
 use Rattle.lists.proofs.Cuts.{all-at}

@@ -1,6 +1,5 @@
 -- `turns_of` meets its contract: a count that is not 0 is itself.
 -- Assumes nothing.
-use borrow.Author.Needs.{needs}
 use Prim.Native.Nat.{ℕ, zero, suc}
 use mathlib.Core.Path.{_≡_, refl}
 use Rattle.replay.specs.Lines.{turnsOf}
