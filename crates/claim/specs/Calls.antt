@@ -1,11 +1,14 @@
 -- A list of calls as words: for each its kind, the length of its lent list, the number of its words, and these words.
 use Prim.Native.Nat.{ℕ, zero, suc, _+_, _≤_, min}
+use mathlib.Core.Path.{_≡_}
 use mathlib.Core.List.{List, [], _∷_, _++_}
 use lib.ListN.{length, take, drop}
 use Rattle.lists.specs.Lists.{Every}
 use Rattle.rules.specs.Plain.{Plain}
 use Rattle.rules.specs.Words.{word}
-use Rattle.rules.specs.Calls.{Call, admission, absence, certify, abandonment, settled, returned, closes, fated, finalization, forget, terminal, stamp, prune, step}
+use Rattle.rules.specs.Calls.{Call, admission, absence, certify, abandonment, settled, returned, closes, fated, finalization, forget, terminal, stamp, prune, step, run}
+use Rattle.ledger.specs.declared.Ledger.{Ledger}
+use Rattle.ledger.specs.Contents.{contents, Held}
 use Rattle.ledger.specs.Meets.{written}
 use Rattle.dispatch.specs.Changing.{callOf}
 
@@ -76,3 +79,9 @@ Roomy cap cs = Every (λ c. lentTo c ≤ cap) cs
 abbrev pub lentAfter : List Call → Plain → List ℕ → List ℕ
 lentAfter [] p list = list
 lentAfter (c ∷ cs) p list = lentAfter cs (step c p .ledger) (written (step c p .words) list)
+
+-- what a list of calls hands back and leaves in that list
+pub record Ran (calls : List Call) (p : Plain) (lent list : List ℕ) (r : Ledger) : Type 0 where
+  pub held : Held r
+  pub ledger : contents r ≡ run calls p
+  pub wrote : list ≡ lentAfter calls p lent

@@ -16,7 +16,7 @@ use Rattle.ledger.specs.declared.Ledger.{Ledger}
 use Rattle.ledger.specs.Contents.{contents, Held}
 use Rattle.ledger.specs.Meets.{written}
 use Rattle.claim.specs.declared.Replayed.{Replayed}
-use Rattle.claim.specs.Calls.{lentAfter}
+use Rattle.claim.specs.Calls.{decode, lentAfter}
 use Rattle.claim.specs.Series.{steady, allCounts, firstsOf, secondsOf, reportsIn, AsCalls}
 
 -- a list that is lent, before and after
@@ -105,3 +105,7 @@ pub record Claim (start : Plain) (calls : List Call) (clocks : List ℕ) (k : �
   -- of no clock there is no last
   pub asOne : r .made ≡ true → 0 < length clocks → AsOne (run calls start) clocks (lastOf 0 clocks) reportList countList r
   pub noPrune : r .made ≡ false → NoPrune reportList countList r
+
+-- the claim of calls that are given as words, and of the three lists as they were lent and as they were left
+abbrev pub Claims : Plain → List ℕ → List ℕ → ℕ → (l l' r r' c c' : List ℕ) → Replayed → Type 0
+Claims start words clocks k l l' r r' c c' handed = Claim start (decode (length l) words) clocks k (lent l l') (lent r r') (lent c c') handed

@@ -3,11 +3,9 @@
 mod running;
 pub mod series;
 
-ghost use lib.ListN.{length};
 ghost use Rattle.rules.specs.Calls.{making};
 ghost use Rattle.ledger.specs.Contents.{Held, contents};
-ghost use Rattle.claim.specs.Calls.{decode};
-ghost use Rattle.claim.specs.Claim.{Claim, lent as before_and_after};
+ghost use Rattle.claim.specs.Claim.{Claims};
 use calls::making::new;
 use ledger::Ledger;
 use running::run_calls;
@@ -37,7 +35,7 @@ pub fn replay_from(
     counts: &mut [u64],
 ) -> Replayed
     requires { ⌜ Held start ⌝ }
-    ensures { λ r. ⌜ Claim (contents start) (decode (length (now (lent .entry))) (now (calls .entry))) (now (clocks .entry)) k (before_and_after (now (lent .entry)) (now (lent .exit))) (before_and_after (now (reports .entry)) (now (reports .exit))) (before_and_after (now (counts .entry)) (now (counts .exit))) r ⌝ }
+    ensures { λ r. ⌜ Claims (contents start) (now (calls .entry)) (now (clocks .entry)) k (now (lent .entry)) (now (lent .exit)) (now (reports .entry)) (now (reports .exit)) (now (counts .entry)) (now (counts .exit)) r ⌝ }
 {
     let before = run_calls(start, calls, lent);
     if !may_prune(clocks, reports.len(), counts.len()) {
@@ -76,7 +74,7 @@ pub fn replay(
     reports: &mut [u64],
     counts: &mut [u64],
 ) -> Replayed
-    ensures { λ r. ⌜ Claim (making (local .0) validity «core_span» «leg_span» .ledger) (decode (length (now (lent .entry))) (now (calls .entry))) (now (clocks .entry)) k (before_and_after (now (lent .entry)) (now (lent .exit))) (before_and_after (now (reports .entry)) (now (reports .exit))) (before_and_after (now (counts .entry)) (now (counts .exit))) r ⌝ }
+    ensures { λ r. ⌜ Claims (making (local .0) validity «core_span» «leg_span» .ledger) (now (calls .entry)) (now (clocks .entry)) k (now (lent .entry)) (now (lent .exit)) (now (reports .entry)) (now (reports .exit)) (now (counts .entry)) (now (counts .exit)) r ⌝ }
 {
     let made = new(local, validity, core_span, leg_span);
     replay_from(made.ledger, calls, clocks, k, lent, reports, counts)

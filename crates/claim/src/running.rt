@@ -2,9 +2,8 @@
 ghost use Prim.Native.Nat.{min};
 ghost use mathlib.Core.Path.{_≡_};
 ghost use lib.ListN.{length};
-ghost use Rattle.rules.specs.Calls.{run};
 ghost use Rattle.ledger.specs.Contents.{Held, contents};
-ghost use Rattle.claim.specs.Calls.{decode, lentAfter};
+ghost use Rattle.claim.specs.Calls.{decode, Ran};
 use dispatch::changing::apply;
 use ledger::Ledger;
 use words::slices::word_at;
@@ -18,7 +17,7 @@ fn at_most(n: u64, limit: usize) -> usize
 // The calls that the words hold, each given the ledger that the one before handed back and the front of the list as that one left it.
 pub fn run_calls(start: Ledger, calls: &[u64], lent: &mut [u64]) -> Ledger
     requires { ⌜ Held start ⌝ }
-    ensures { λ r. ⌜ Held r × (contents r ≡ run (decode (length (now (lent .entry))) (now (calls .entry))) (contents start)) × (now (lent .exit) ≡ lentAfter (decode (length (now (lent .entry))) (now (calls .entry))) (contents start) (now (lent .entry))) ⌝ }
+    ensures { λ r. ⌜ Ran (decode (length (now (lent .entry))) (now (calls .entry))) (contents start) (now (lent .entry)) (now (lent .exit)) r ⌝ }
 {
     let mut ledger = start;
     let mut at: usize = 0;

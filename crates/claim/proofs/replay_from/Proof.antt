@@ -25,12 +25,12 @@ same-length c = search needs
 returns : tie.Need-returns
 returns c =
     let a = c .before .before .before .before .run-calls .ensures in
-    unpruned _ _ _ _ _ _ _ _ _ (a .0) (a .1) (a .2) (sym (c .before .may-prune .ensures) ∙ not-true _ (c .if1 .taken))
+    unpruned _ _ _ _ _ _ _ _ _ (a .held) (a .ledger) (a .wrote) (sym (c .before .may-prune .ensures) ∙ not-true _ (c .if1 .taken))
 
 prune-all-requires : tie.Need-prune-all-requires
 prune-all-requires c κs =
     let m = passed (c .before .before) in
-    (c .before .before .before .before .before .before .run-calls .ensures .0, m .times, m .reports, m .counts)
+    (c .before .before .before .before .before .before .run-calls .ensures .held, m .times, m .reports, m .counts)
 
 same-length-2 : tie.Need-same-length-2
 same-length-2 c = search needs
@@ -46,7 +46,7 @@ returns-2 c =
     let q = c .before .before .before .before .before .before in
     let e = q .before .before .before in
     let a = e .before .before .before .before .run-calls .ensures in
-    all-pruned _ _ _ _ _ _ _ _ _ _ _ _ (a .0) (a .1) (a .2) (sym (e .before .may-prune .ensures) ∙ not-false _ (e .if1 .left)) (q .prune-all .ensures)
+    all-pruned _ _ _ _ _ _ _ _ _ _ _ _ (a .held) (a .ledger) (a .wrote) (sym (e .before .may-prune .ensures) ∙ not-false _ (e .if1 .left)) (q .prune-all .ensures)
 
 pub replay-from-spec : {M : Type 1} → statement M
 replay-from-spec =

@@ -126,7 +126,7 @@ returns : tie.Need-returns Inv-loop μ-loop
 returns c =
     let l = c .before .loop in
     let end = rest-none (c .before .before .before .before .args .calls .now) (l .at) (omega arith) in
-    (l .inv .2, rw end at (l .inv .3), rw end at (l .inv .4))
+    record { held = l .inv .2; ledger = rw end at (l .inv .3); wrote = rw end at (l .inv .4) }
 
 pub run-calls-spec : {M : Type 1} → statement M
 run-calls-spec =
