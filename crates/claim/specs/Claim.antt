@@ -57,7 +57,8 @@ pub record InTurn (p : Plain) (clocks : List ℕ) (k : ℕ) (reportList countLis
   -- shut out: sums that leave a prune out
   pub gone : r .fallen ≡ allFallen clocks p
   pub many : r .written ≡ length (allReports clocks p)
-  -- each is the changing call `prune` with room for 48 reports, accepted, with these words and answers; shut out: prunes by other rules
+  -- of the definitions above, and no program: each prune is the changing call `prune` with room for 48 reports, accepted, with these words and
+  -- answers. With it they shut out a series by other rules than the call's
   pub calls : AsCalls clocks p
 
 -- 'and leave and report what one prune at the last would'
