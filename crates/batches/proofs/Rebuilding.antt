@@ -23,17 +23,17 @@ use Rattle.rules.specs.Numbers.{isWord, isShard, maxCount}
 use Rattle.rules.specs.Plain as plain
 use Rattle.rules.specs.Plain.{Plain, Terms, transactionOf, withEntries, withRebuilt}
 use Rattle.rules.specs.Words.{word, groupCount, recordShard, reachSizes, recordGroups, recordFormed, recordTimed}
-use Rattle.rules.specs.Entries.{rebuilt, withNaming, withGroup, withGroups, rebuiltBy}
+use Rattle.rules.specs.Entries.{rebuilt, withDepartedBy, withGroup, withGroups, rebuiltBy}
 use Rattle.rules.specs.Index.{index}
 use Rattle.rules.specs.Outcome.{_gives_then_}
 use Rattle.rules.specs.Calls.{unowed, noRoomFor, abandonmentRefusal, afterAbandonment}
-use Rattle.rules.specs.Good.{Good, GoodEntry, Holds, isNaming}
+use Rattle.rules.specs.Good.{Good, GoodEntry, Holds, isDepartedBy}
 use Rattle.rules.proofs.Taken.{GoodGroup, groups-good, rebuilt-good}
-use Rattle.rules.proofs.Kept.{passed, tested, groups-count, rebuilt-count, with-entries, with-rebuilt, included-good, entries-of, changes, naming-shard, naming-good}
+use Rattle.rules.proofs.Kept.{passed, tested, groups-count, rebuilt-count, with-entries, with-rebuilt, included-good, entries-of, changes, departedBy-shard, departedBy-good}
 use Rattle.entry.specs.declared.Entry.{Entry}
 use Rattle.entry.specs.Entry.{plainEntry, Means}
 use Rattle.store.specs.declared.roster.Roster.{Roster}
-use Rattle.store.specs.Roster.{keysOf, freeSlot, is, below, Opened}
+use Rattle.store.specs.Roster.{keysOf, freeSlot, is, below, Inserted}
 use Rattle.words.specs.Taken.{groupAt}
 use Rattle.words.proofs.Groups.{recorded, groups-length, reach-start, reach-next, group-at}
 use Rattle.ledger.specs.declared.Ledger.{Ledger}
@@ -86,8 +86,8 @@ groups-few l ws (suc k) m h q e = omega (arith, left-out k (groupCount ws) m e)
 
 -- The ledger stays good.
 
-with-name : (p : Plain) (t shard : ℕ) → isNaming shard ≡ true → Good p → Good (withEntries (change transactionOf t (withNaming shard) (p .entries)) p)
-with-name p t shard n g = changes p t (withNaming shard) (λ e. refl) (λ e _ h. naming-good (p .local) e h shard n) g
+with-name : (p : Plain) (t shard : ℕ) → isDepartedBy shard ≡ true → Good p → Good (withEntries (change transactionOf t (withDepartedBy shard) (p .entries)) p)
+with-name p t shard n g = changes p t (withDepartedBy shard) (λ e. refl) (λ e _ h. departedBy-good (p .local) e h shard n) g
 
 including-good : (p : Plain) (e : plain.Entry) → GoodEntry (p .local) e → length (p .entries) < 48 → Good p → Good (withEntries (include transactionOf e (p .entries)) p)
 including-good p e h room g =
@@ -204,11 +204,11 @@ module _ (l₀ : Ledger) (ws : List ℕ) (p : Passed ws (contents l₀)) (l : Le
   of-group = ap transactionOf (m .plain)
 
   next : (b : Bool) (r : Ledger) → has transactionOf (g .transaction) (contents l .entries) ≡ b →
-      Became (withEntries (cond b (change transactionOf (g .transaction) (withNaming shard) (contents l .entries)) (include transactionOf (rebuilt shard g) (contents l .entries))) (contents l)) r →
+      Became (withEntries (cond b (change transactionOf (g .transaction) (withDepartedBy shard) (contents l .entries)) (include transactionOf (rebuilt shard g) (contents l .entries))) (contents l)) r →
       Rebuilding l₀ ws r (start + word (2 + i) ws) (n + cond b 0 1) (i + 1)
   next b r e c =
       let es = contents l .entries in
-      let after : Bool → List plain.Entry = λ b. cond b (change transactionOf (g .transaction) (withNaming shard) es) (include transactionOf (rebuilt shard g) es) in
+      let after : Bool → List plain.Entry = λ b. cond b (change transactionOf (g .transaction) (withDepartedBy shard) es) (include transactionOf (rebuilt shard g) es) in
       let rest = drop (i + 1) (recordGroups ws) in
       let now : contents r .entries ≡ after b = ap (λ (p : Plain). p .entries) (c .holds) in
       let one : cond b 0 1 + rebuiltBy shard rest (contents r .entries) ≡ rebuiltBy shard (drop i (recordGroups ws)) es =
@@ -230,14 +230,14 @@ module _ (l₀ : Ledger) (ws : List ℕ) (p : Passed ws (contents l₀)) (l : Le
       at-most-one false = omega arith
 
   pub group-owed : (k : ℕ) (d y : Entry) → place (is (x .tx .0)) 0 (keysOf (l .roster)) ≡ At k →
-      Means (withNaming shard (plainEntry (getD (l .entries) (getD (l .roster .slots) k 0) d))) y →
+      Means (withDepartedBy shard (plainEntry (getD (l .entries) (getD (l .roster .slots) k 0) d))) y →
       Rebuilding l₀ ws (withParts l (l .roster) (set (l .entries) (getD (l .roster .slots) k 0) y) (l .issuers)) (start + word (2 + i) ws) n (i + 1)
   group-owed k d y e w =
-      let b = changed l (v .held) (x .tx .0) k y d (withNaming shard) e (w .fits) (w .plain) (λ z. refl)
-      (with-name (contents l) (x .tx .0) shard (naming-shard shard (p .shard)) (v .held .good)) in
+      let b = changed l (v .held) (x .tx .0) k y d (withDepartedBy shard) e (w .fits) (w .plain) (λ z. refl)
+      (with-name (contents l) (x .tx .0) shard (departedBy-shard shard (p .shard)) (v .held .good)) in
       rw (let z : n + 0 ≡ n = omega arith in z) at
       (next true _ (ap (λ t. has transactionOf t (contents l .entries)) (sym of-group) ∙ found-at l (v .held) (x .tx .0) k e .known)
-      (subst (λ t. Became (withEntries (change transactionOf t (withNaming shard) (contents l .entries)) (contents l)) (withParts l (l .roster) (set (l .entries) (getD (l .roster .slots) k 0) y) (l .issuers))) of-group b))
+      (subst (λ t. Became (withEntries (change transactionOf t (withDepartedBy shard) (contents l .entries)) (contents l)) (withParts l (l .roster) (set (l .entries) (getD (l .roster .slots) k 0) y) (l .issuers))) of-group b))
 
   unknown : place (is (x .tx .0)) 0 (keysOf (l .roster)) ≡ Nothing → has transactionOf (g .transaction) (contents l .entries) ≡ false
   unknown e = ap (λ t. has transactionOf t (contents l .entries)) (sym of-group) ∙ not-found l (v .held) (x .tx .0) e .known
@@ -257,12 +257,12 @@ module _ (l₀ : Ledger) (ws : List ℕ) (p : Passed ws (contents l₀)) (l : Le
   room-left e = omega (arith, group-room e, entries-length l (v .held))
 
   pub group-new : Every (Holds isWord) ws → (k : ℕ) (r : Roster) → place (is (x .tx .0)) 0 (keysOf (l .roster)) ≡ Nothing → k ≡ rank (below (x .tx .0)) (keysOf (l .roster)) →
-      Opened (l .roster) k (x .tx .0) r →
+      Inserted (l .roster) k (x .tx .0) r →
       Rebuilding l₀ ws (withParts l r (set (l .entries) (freeSlot (l .roster)) x) (l .issuers)) (start + word (2 + i) ws) (n + 1) (i + 1)
   group-new words k r e q o =
       let goods = every-drop GoodGroup i (recordGroups ws) (groups-good ws words (p .formed) (p .timed)) in
       let good : GoodGroup g = (rw more at goods) .0 in
-      let entry : GoodEntry (contents l .local) (plainEntry x) = rw (m .plain) (rebuilt-good (contents l .local) shard g (p .shard) (naming-shard shard (p .shard)) good) in
+      let entry : GoodEntry (contents l .local) (plainEntry x) = rw (m .plain) (rebuilt-good (contents l .local) shard g (p .shard) (departedBy-shard shard (p .shard)) good) in
       let b = taken-in l (v .held) k x r (l .issuers) e q (group-room e) (m .fits) (entry .terms .transaction) o (rw (m .plain) (v .held .issuers))
       (including-good (contents l) (plainEntry x) entry (room-left e) (v .held .good)) in
       next false _ (unknown e)

@@ -19,7 +19,7 @@ use Rattle.lists.proofs.Tests.{and-left, and-right}
 use Rattle.rules.specs.Plain as plain
 use Rattle.rules.specs.Plain.{Plain, transactionOf, withEntries, isCore, isSettling, owes, remainder}
 use Rattle.rules.specs.Words.{Line, word, lineCount, finalizationFormed, finalizationLines, deciding}
-use Rattle.rules.specs.Entries.{Ruling, skip, turn, release, rulingOn, ruling, ruled, isRelease, withLines, releasedBy, withPart}
+use Rattle.rules.specs.Entries.{Ruling, skip, resolve, release, rulingOn, ruling, ruled, isRelease, withLines, releasedBy, withPart}
 use Rattle.rules.specs.Calls.{forget, finalization, afterForget, finalizationRefusal, afterFinalization}
 use Rattle.rules.specs.Good.{Good}
 use Rattle.rules.proofs.Kept.{tested, step-good}
@@ -27,7 +27,7 @@ use Rattle.entry.specs.declared.Entry.{Entry}
 use Rattle.entry.specs.Entry.{plainEntry, Means}
 use Rattle.store.specs.declared.roster.Roster.{Roster}
 use Rattle.store.specs.declared.issuers.Issuers.{Issuers}
-use Rattle.store.specs.Roster.{keysOf, is, Closed}
+use Rattle.store.specs.Roster.{keysOf, is, Removed}
 use Rattle.store.specs.Issuers as issuers
 use Rattle.store.specs.Issuers.{isNot, pairsIn}
 use Rattle.words.proofs.Lines.{lineOf, lineAt, lines-length, code-at, line-at}
@@ -37,7 +37,7 @@ use Rattle.ledger.specs.Meets.{Meets}
 use Rattle.ledger.proofs.Lift.{withParts, Became, found-at, not-found, changed, let-go, unnamed}
 use Rattle.ledger.proofs.Meeting.{refuses, passes, answers, says}
 use Rattle.batches.specs.declared.finalization.Ruling as declared
-use Rattle.batches.specs.declared.finalization.Ruling.the-variants.{Skip, Turn, Release, Refused}
+use Rattle.batches.specs.declared.finalization.Ruling.the-variants.{Skip, Resolve, Release, Refused}
 use Rattle.batches.specs.Rulings.{plainRuling, ruledOn}
 use Rattle.batches.proofs.Going.{Going, ends}
 
@@ -84,10 +84,10 @@ resolves l₀ ws l (suc m) n released i h q e v k =
     refuses m l₀ [] (finalizationRefusal ws) _ (ends (suc m) released l) h (sym q) (ap₂ (ends (suc m)) (v .none (omega arith)) (v .stays (omega arith)))
 
 -- a line of Accept that decides itself turns a core that owes
-turn-good : (p : Plain) (t : ℕ) (e : plain.Entry) → get transactionOf t (p .entries) ≡ some e → isCore (e .part) && owes (p .local) (e .terms) ≡ true → Good p →
+resolve-good : (p : Plain) (t : ℕ) (e : plain.Entry) → get transactionOf t (p .entries) ≡ some e → isCore (e .part) && owes (p .local) (e .terms) ≡ true → Good p →
     Good (withEntries (change transactionOf t (withPart remainder) (p .entries)) p)
 unfolding afterFinalization finalizationFormed finalizationLines deciding
-turn-good p t e q c g =
+resolve-good p t e q c g =
     let here : isSettling (e .part) ≡ false = not-settling (e .part) (and-left (isCore (e .part)) _ c) in
     rw (q, here, c) at (step-good (finalization (1 ∷ 1 ∷ t ∷ 1 ∷ t ∷ [])) tt p g)
   where
@@ -109,7 +109,7 @@ ruled-on local ds l e h =
         rw (le-leb 2 (l .decision) (omega (arith, low, eqb-false (l .decision) 1 k))) (and-right (leb 1 (l .decision)) _ h)
 
     go : (one more waits owing : Bool) → (one ≡ false → more ≡ true) →
-        plainRuling (cond one (cond waits Skip (cond owing Turn Release)) (cond more (cond waits Skip Release) Refused)) ≡ some (cond waits skip (cond (one && owing) turn release))
+        plainRuling (cond one (cond waits Skip (cond owing Resolve Release)) (cond more (cond waits Skip Release) Refused)) ≡ some (cond waits skip (cond (one && owing) resolve release))
     go true more true owing k = refl
     go true more false true k = refl
     go true more false false k = refl
@@ -118,23 +118,23 @@ ruled-on local ds l e h =
     go false false waits owing k = absurd (false≢true (k refl))
 
 -- what a ruling on an entry says of it
-turns : (local : ℕ) (ds : List ℕ) (l : Line) (e : plain.Entry) → rulingOn local ds l e ≡ turn → isCore (e .part) && owes local (e .terms) ≡ true
+turns : (local : ℕ) (ds : List ℕ) (l : Line) (e : plain.Entry) → rulingOn local ds l e ≡ resolve → isCore (e .part) && owes local (e .terms) ≡ true
 turns local ds l e h = go (isSettling (e .part) && not (has self (l .transaction) ds)) (eqb (l .decision) 1) (isCore (e .part) && owes local (e .terms)) h
   where
-    isTurn : Ruling → ℕ
-    isTurn skip = 0
-    isTurn turn = 1
-    isTurn release = 0
+    isResolve : Ruling → ℕ
+    isResolve skip = 0
+    isResolve resolve = 1
+    isResolve release = 0
 
-    go : (a b c : Bool) → cond a skip (cond (b && c) turn release) ≡ turn → c ≡ true
-    go true b c q = absurd (let z : _≡_ {A = ℕ} 0 1 = ap isTurn q in omega arith)
+    go : (a b c : Bool) → cond a skip (cond (b && c) resolve release) ≡ resolve → c ≡ true
+    go true b c q = absurd (let z : _≡_ {A = ℕ} 0 1 = ap isResolve q in omega arith)
     go false true true q = refl
-    go false true false q = absurd (let z : _≡_ {A = ℕ} 0 1 = ap isTurn q in omega arith)
-    go false false c q = absurd (let z : _≡_ {A = ℕ} 0 1 = ap isTurn q in omega arith)
+    go false true false q = absurd (let z : _≡_ {A = ℕ} 0 1 = ap isResolve q in omega arith)
+    go false false c q = absurd (let z : _≡_ {A = ℕ} 0 1 = ap isResolve q in omega arith)
 
 at-most-one : (r : Ruling) → isRelease r ≤ 1
 at-most-one skip = omega arith
-at-most-one turn = omega arith
+at-most-one resolve = omega arith
 at-most-one release = omega arith
 
 -- a turn of the loop: the line's ruling, and the ledger after it
@@ -205,14 +205,14 @@ module _ (l₀ : Ledger) (ws : List ℕ) (f : finalizationFormed ws ≡ true) (l
         let both = sym (ap plainRuling q) ∙ said in
         absurd (let z : _≡_ {A = ℕ} 0 1 = cc in omega arith)
 
-    pub line-turn : s ≡ Turn → (x : Entry) → Means (withPart remainder (plainEntry old)) x →
+    pub line-resolve : s ≡ Resolve → (x : Entry) → Means (withPart remainder (plainEntry old)) x →
         Resolving l₀ ws (withParts l (l .roster) (set (l .entries) (getD (l .roster .slots) k 0) x) (l .issuers)) released (i + 1)
-    line-turn q x m =
-        let good = turn-good (contents l) tx (plainEntry old) (found-at l (v .held) tx k e .got d) (turns (contents l .local) (deciding ws) (lineAt ws i) (plainEntry old) (on turn (ap plainRuling q))) (v .held .good) in
+    line-resolve q x m =
+        let good = resolve-good (contents l) tx (plainEntry old) (found-at l (v .held) tx k e .got d) (turns (contents l .local) (deciding ws) (lineAt ws i) (plainEntry old) (on resolve (ap plainRuling q))) (v .held .good) in
         rw (let z : released + 0 ≡ released = omega arith in z) at
-        (next turn _ (rules turn (ap plainRuling q)) (changed l (v .held) tx k x d (withPart remainder) e (m .fits) (m .plain) (λ y. refl) good))
+        (next resolve _ (rules resolve (ap plainRuling q)) (changed l (v .held) tx k x d (withPart remainder) e (m .fits) (m .plain) (λ y. refl) good))
 
-    pub line-release : s ≡ Release → (r : Roster) (x : Issuers) → Closed (l .roster) k r → issuers.Holds (keep (isNot tx) (pairsIn (l .issuers))) x →
+    pub line-release : s ≡ Release → (r : Roster) (x : Issuers) → Removed (l .roster) k r → issuers.Holds (keep (isNot tx) (pairsIn (l .issuers))) x →
         Resolving l₀ ws (withParts l r (l .entries) x) (released + 1) (i + 1)
     unfolding afterForget
     line-release q r x c ix =

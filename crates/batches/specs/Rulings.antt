@@ -6,16 +6,16 @@ use mathlib.Core.Option.{Option, none, some}
 use lib.Dec.{eqb, leb}
 use Rattle.lists.specs.Lists.{has, self}
 use Rattle.rules.specs.Entries as rules
-use Rattle.rules.specs.Entries.{skip, turn, release}
+use Rattle.rules.specs.Entries.{skip, resolve, release}
 use Rattle.rules.specs.Plain.{Entry, isCore, isSettling, owes}
 use Rattle.rules.specs.Words.{Line}
 use Rattle.batches.specs.declared.finalization.Ruling.{Ruling}
-use Rattle.batches.specs.declared.finalization.Ruling.the-variants.{Skip, Turn, Release, Refused}
+use Rattle.batches.specs.declared.finalization.Ruling.the-variants.{Skip, Resolve, Release, Refused}
 
 -- what each case is among the paper's rulings; a refusal is none of them
 abbrev pub plainRuling : Ruling → Option rules.Ruling
 plainRuling Skip = some skip
-plainRuling Turn = some turn
+plainRuling Resolve = some resolve
 plainRuling Release = some release
 plainRuling Refused = none
 
@@ -23,7 +23,7 @@ plainRuling Refused = none
 -- is a core that owes
 abbrev pub ruledBy : ℕ → Bool → Bool → Ruling
 ruledBy code isOpen isOwing =
-    cond (eqb code 1) (cond isOpen Skip (cond isOwing Turn Release))
+    cond (eqb code 1) (cond isOpen Skip (cond isOwing Resolve Release))
     (cond (leb 2 code && leb code 3) (cond isOpen Skip Release)
     Refused)
 

@@ -116,12 +116,12 @@ pub fn record_abandonment(mut ledger: Ledger, words: &[u64]) -> Done
             Found::At(k) => {
                 let slot = roster.slots[k];
                 let old = ledger.entries[slot];
-                ledger.entries[slot] = old.with_naming(shard);
+                ledger.entries[slot] = old.with_departed_by(shard);
             }
             Found::Nothing => {
                 let end = roster.len;
                 let slot = roster.slots[end];
-                ledger.roster = roster.opened(roster.rank(tx), tx);
+                ledger.roster = roster.insert_at(roster.rank(tx), tx);
                 ledger.entries[slot] = e;
                 rebuilt += 1;
             }

@@ -26,7 +26,7 @@ use words::slices::size_at;
 // What a line does with the entry that it names; Refused for a code that is none of the three.
 pub enum Ruling {
     Skip,
-    Turn,
+    Resolve,
     Release,
     Refused,
 }
@@ -39,7 +39,7 @@ fn decide(code: u64, is_open: bool, is_owing: bool) -> Ruling
         1 => if is_open {
             Ruling::Skip
         } else if is_owing {
-            Ruling::Turn
+            Ruling::Resolve
         } else {
             Ruling::Release
         },
@@ -118,12 +118,12 @@ pub fn release_resolved(mut ledger: Ledger, words: &[u64]) -> Done
         let e = ledger.entries[slot];
         match rule(words, tx, code, e, ledger.local) {
             Ruling::Skip => {}
-            Ruling::Turn => {
-                ledger.entries[slot] = e.turned();
+            Ruling::Resolve => {
+                ledger.entries[slot] = e.resolve();
             }
             Ruling::Release => {
                 let issuers = ledger.issuers;
-                ledger.roster = roster.closed(k);
+                ledger.roster = roster.remove_at(k);
                 ledger.issuers = issuers.without(tx);
                 released += 1;
             }

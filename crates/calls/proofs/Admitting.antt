@@ -30,7 +30,7 @@ use Rattle.entry.specs.declared.Entry.{Entry}
 use Rattle.entry.specs.Entry.{plainEntry, Means}
 use Rattle.store.specs.declared.roster.Roster.{Roster}
 use Rattle.store.specs.declared.issuers.Issuers.{Issuers}
-use Rattle.store.specs.Roster.{keysOf, freeSlot, is, below, Opened}
+use Rattle.store.specs.Roster.{keysOf, freeSlot, is, below, Inserted}
 use Rattle.store.specs.Issuers as issuers
 use Rattle.ledger.specs.declared.Ledger.{Ledger}
 use Rattle.ledger.specs.Contents.{contents, Held}
@@ -196,7 +196,7 @@ module _ (l : Ledger) (h : Held l) (ws : List ℕ) where
                 room = omega (arith, ap length pairs, index-size (withEntries (include transactionOf (plainEntry x) (contents l .entries)) (contents l)) good);
               }
 
-          pub admits : (k : ℕ) → k ≡ rank (below t) (keysOf (l .roster)) → (b : Roster) → Opened (l .roster) k t b → (y : Issuers) → issuers.Holds (withPairs (l .local .0) x (l .issuers)) y →
+          pub admits : (k : ℕ) → k ≡ rank (below t) (keysOf (l .roster)) → (b : Roster) → Inserted (l .roster) k t b → (y : Issuers) → issuers.Holds (withPairs (l .local .0) x (l .issuers)) y →
               Meets (afterAdmission ws (contents l)) [] [] (says 1 (withParts l b (set (l .entries) (freeSlot (l .roster)) x) y))
           unfolding afterAdmission
           admits k v b op y i =

@@ -27,7 +27,7 @@ use Rattle.entry.specs.Entry.{plainEntry, Means}
 use Rattle.entry.proofs.Absent.{length-absences}
 use Rattle.store.specs.declared.roster.Roster.{Roster}
 use Rattle.store.specs.declared.issuers.Issuers.{Issuers}
-use Rattle.store.specs.Roster.{keysOf, is, Closed}
+use Rattle.store.specs.Roster.{keysOf, is, Removed}
 use Rattle.store.specs.Issuers as issuers
 use Rattle.store.specs.Issuers.{isNot, pairsIn}
 use Rattle.ledger.specs.declared.Ledger.{Ledger}
@@ -44,7 +44,7 @@ module _ (l : Ledger) (h : Held l) (t : ℕ) where
       let w = not-found l h t e in
       rw (w .known, w .gone) (answers 0 l (contents l) (says 0 l) (stays l h (contents l) refl) refl)
 
-  pub forget-owed : (k : ℕ) → place (is t) 0 (keysOf (l .roster)) ≡ At k → (r : Roster) (x : Issuers) → Closed (l .roster) k r →
+  pub forget-owed : (k : ℕ) → place (is t) 0 (keysOf (l .roster)) ≡ At k → (r : Roster) (x : Issuers) → Removed (l .roster) k r →
       issuers.Holds (keep (isNot t) (pairsIn (l .issuers))) x → Meets (afterForget t (contents l)) [] [] (says 1 (withParts l r (l .entries) x))
   unfolding afterForget
   forget-owed k e r x c i =
@@ -63,7 +63,7 @@ module _ (l : Ledger) (h : Held l) (t : ℕ) where
   fated-other k d e q = rw (found-at l h t k e .got d, q) (answers 0 l (contents l) (says 0 l) (stays l h (contents l) refl) refl)
 
   pub fated-leg : (k : ℕ) (d : Entry) → place (is t) 0 (keysOf (l .roster)) ≡ At k →
-      isLeg (plainEntry (getD (l .entries) (getD (l .roster .slots) k 0) d) .part) ≡ true → (r : Roster) (x : Issuers) → Closed (l .roster) k r →
+      isLeg (plainEntry (getD (l .entries) (getD (l .roster .slots) k 0) d) .part) ≡ true → (r : Roster) (x : Issuers) → Removed (l .roster) k r →
       issuers.Holds (keep (isNot t) (pairsIn (l .issuers))) x → Meets (afterFated t (contents l)) [] [] (says 2 (withParts l r (l .entries) x))
   unfolding afterFated afterForget
   fated-leg k d e q r x c i =

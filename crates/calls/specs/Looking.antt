@@ -15,7 +15,7 @@ use Rattle.ledger.specs.declared.Ledger.{Ledger}
 use Rattle.ledger.specs.declared.Done.{Done}
 use Rattle.ledger.specs.Contents.{Held, contents}
 use Rattle.ledger.specs.Meets.{Meets}
-use Rattle.calls.specs.declared.certificate.Heard.{Heard}
+use Rattle.calls.specs.declared.certificate.AbsenceOutcome.{AbsenceOutcome}
 
 -- the slot of what was found, and the first slot for nothing
 abbrev pub slotOf : List ℕ → Found → ℕ
@@ -49,8 +49,8 @@ pub record Looked (l : Ledger) (t : ℕ) (f : Found) (e : Entry) : Type 0 where
   pub lies : (d : Entry) → e ≡ getD (l .entries) (slotOf (l .roster .slots) f) d
 
 -- what the entry says to an absence is what the call says, in every ledger where it lies
-abbrev pub HearsAbsence : Absence → Found → Entry → Heard → Type 0
-HearsAbsence a f e r =
+abbrev pub IsAbsenceOutcome : Absence → Found → Entry → AbsenceOutcome → Type 0
+IsAbsenceOutcome a f e r =
     (l : Ledger) (t : ℕ) → Looked l t f e → Meets (afterAbsence t a (contents l)) [] [] (puts (r .refused) (r .answer) (slotOf (l .roster .slots) f) (r .entry) l)
 
 -- and the same for a mark

@@ -90,7 +90,7 @@ pub fn register_committed(mut ledger: Ledger, words: &[u64]) -> Done
         if let Found::Nothing = found {
             let e = admitted(words, ledger.local);
             let slot = roster.slots[len];
-            ledger.roster = roster.opened(roster.rank(tx), tx);
+            ledger.roster = roster.insert_at(roster.rank(tx), tx);
             ledger.issuers = name_issued(ledger.issuers, e, ledger.local);
             ledger.entries[slot] = e;
             answer = 1;

@@ -1,4 +1,4 @@
-// Certify, and the reading of a cell as absent: what one owed entry is told.
+// Certify, and the reading of a cell as absent: what one owed entry learns.
 ghost use mathlib.Core.List.{[]};
 ghost use mathlib.Core.Path.{_≡_};
 ghost use Prim.Native.Nat.{ℕ};
@@ -9,7 +9,7 @@ ghost use Rattle.rules.specs.Calls.{afterCertify, afterAbsence};
 ghost use Rattle.entry.specs.Entry.{absence, absencesOf, Fits};
 ghost use Rattle.ledger.specs.Contents.{Held, contents};
 ghost use Rattle.ledger.specs.Meets.{Meets};
-ghost use Rattle.calls.specs.Looking.{HearsAbsence};
+ghost use Rattle.calls.specs.Looking.{IsAbsenceOutcome};
 use crate::looking::slot_of;
 use entry::Entry;
 use ledger::Done;
@@ -44,47 +44,47 @@ pub fn certify(mut ledger: Ledger, tx: Transaction, code: u64) -> Done
 }
 
 // What one entry says to an absence, and the entry after it.
-pub struct Heard {
+pub struct AbsenceOutcome {
     pub refused: u64,
     pub answer: u64,
     pub entry: Entry,
 }
 
 // What the entry that was looked up says to an absence; one that was not found says no, and any entry stands for it unchanged.
-fn hear_absence(found: Found, e: Entry, shard: Shard, key: u64) -> Heard
+fn absence_outcome(found: Found, e: Entry, shard: Shard, key: u64) -> AbsenceOutcome
     requires { ⌜ Fits e ⌝ }
     requires { ⌜ ((k : ℕ) → found ≡ At k → Ascending absenceKey (absencesOf e)) ⌝ }
-    ensures { λ r. ⌜ HearsAbsence (absence (shard .0) key) found e r ⌝ }
+    ensures { λ r. ⌜ IsAbsenceOutcome (absence (shard .0) key) found e r ⌝ }
 {
     if !is_shard(shard.0) {
-        return Heard {
+        return AbsenceOutcome {
             refused: 4,
             answer: 0,
             entry: e,
         };
     }
     let Found::At(_) = found else {
-        return Heard {
+        return AbsenceOutcome {
             refused: 0,
             answer: 0,
             entry: e,
         };
     };
     if e.is_read(shard, key) {
-        return Heard {
+        return AbsenceOutcome {
             refused: 0,
             answer: 0,
             entry: e,
         };
     }
     if 8 <= e.absences_len {
-        return Heard {
+        return AbsenceOutcome {
             refused: 7,
             answer: 0,
             entry: e,
         };
     }
-    Heard {
+    AbsenceOutcome {
         refused: 0,
         answer: 1,
         entry: e.with_absence(shard, key),
@@ -100,12 +100,12 @@ pub fn record_absence(mut ledger: Ledger, tx: Transaction, shard: Shard, key: u6
     let found = roster.find(tx);
     let slot = slot_of(roster, found);
     let e = ledger.entries[slot];
-    let heard = hear_absence(found, e, shard, key);
-    let f = heard.entry;
+    let outcome = absence_outcome(found, e, shard, key);
+    let f = outcome.entry;
     ledger.entries[slot] = f;
     Done {
-        refused: heard.refused,
-        answer: heard.answer,
+        refused: outcome.refused,
+        answer: outcome.answer,
         fallen: 0,
         ledger,
     }

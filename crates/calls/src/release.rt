@@ -17,7 +17,7 @@ pub fn forget(mut ledger: Ledger, tx: Transaction) -> Done
     let roster = ledger.roster;
     if let Found::At(k) = roster.find(tx) {
         let issuers = ledger.issuers;
-        ledger.roster = roster.closed(k);
+        ledger.roster = roster.remove_at(k);
         ledger.issuers = issuers.without(tx);
         answer = 1;
     }
@@ -42,7 +42,7 @@ pub fn fated(mut ledger: Ledger, tx: Transaction) -> Done
         let part = e.part;
         if part.is_leg() {
             let issuers = ledger.issuers;
-            ledger.roster = roster.closed(k);
+            ledger.roster = roster.remove_at(k);
             ledger.issuers = issuers.without(tx);
             answer = 2;
         }

@@ -23,7 +23,7 @@ use Rattle.rules.proofs.Named.{index-names}
 use Rattle.ledger.specs.declared.Ledger.{Ledger}
 use Rattle.ledger.specs.Contents.{contents, Held}
 use Rattle.claim.specs.declared.series.PrunedAll.{PrunedAll}
-use Rattle.claim.specs.declared.Replayed.{Replayed}
+use Rattle.claim.specs.declared.RunAndPruned.{RunAndPruned}
 use Rattle.claim.specs.Calls.{lentAfter}
 use Rattle.claim.specs.Series.{steady, allCounts, firstsOf, secondsOf, reportsIn, Series}
 use Rattle.claim.specs.Claim.{lent, Equals, mayPrune, InTurn, AsOne, Claim}
@@ -60,7 +60,7 @@ may clocks reportList countList e =
     }
 
 -- the series in the claim's words
-pub in-turn : (p : Plain) (clocks : List ℕ) (k : ℕ) (was is countsWere countsAre : List ℕ) (r : Replayed) → Good p → all isTime clocks ≡ true →
+pub in-turn : (p : Plain) (clocks : List ℕ) (k : ℕ) (was is countsWere countsAre : List ℕ) (r : RunAndPruned) → Good p → all isTime clocks ≡ true →
     Series k clocks p was is countsWere countsAre (record { fallen = r .fallen; written = r .written; between = r .between; ledger = r .after }) →
     InTurn p clocks k (lent was is) (lent countsWere countsAre) r
 in-turn p clocks k was is countsWere countsAre r g times s =
@@ -80,7 +80,7 @@ read-back [] = refl
 read-back (r ∷ rs) = ap (λ l. r ∷ l) (read-back rs)
 
 -- the series is one prune at the last clock
-pub as-one : (p : Plain) (clocks : List ℕ) (k : ℕ) (was is countsWere countsAre : List ℕ) (r : Replayed) → Good p → contents (r .before) ≡ p → steady 0 clocks ≡ true →
+pub as-one : (p : Plain) (clocks : List ℕ) (k : ℕ) (was is countsWere countsAre : List ℕ) (r : RunAndPruned) → Good p → contents (r .before) ≡ p → steady 0 clocks ≡ true →
     Series k clocks p was is countsWere countsAre (record { fallen = r .fallen; written = r .written; between = r .between; ledger = r .after }) → 0 < length clocks →
     AsOne p clocks (lastOf 0 clocks) (lent was is) (lent countsWere countsAre) r
 unfolding contents pruned

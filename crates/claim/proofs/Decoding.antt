@@ -14,7 +14,7 @@ use Rattle.rules.specs.Plain.{Plain}
 use Rattle.rules.specs.Words.{word}
 use Rattle.rules.specs.Calls.{Call, admission, absence, certify, abandonment, settled, returned, closes, fated, finalization, forget, terminal, stamp, prune}
 use Rattle.dispatch.specs.Changing.{callOf}
-use Rattle.claim.specs.declared.Replayed.{Replayed}
+use Rattle.claim.specs.declared.RunAndPruned.{RunAndPruned}
 use Rattle.claim.specs.Claim.{Lent, Claim}
 use Rattle.claim.specs.Calls.{decodeFrom, decode, kindOf, lentTo, wordsOf, encode, Roomy}
 
@@ -95,6 +95,6 @@ decode-encode limit (c ∷ cs) r =
     ap₂ _∷_ here rest
 
 -- so the claim of some words is the claim of every list of calls
-pub of-every-list : (start : Plain) (limit : ℕ) (cs : List Call) (clocks : List ℕ) (k : ℕ) (callList reportList countList : Lent) (r : Replayed) → Roomy limit cs →
+pub of-every-list : (start : Plain) (limit : ℕ) (cs : List Call) (clocks : List ℕ) (k : ℕ) (callList reportList countList : Lent) (r : RunAndPruned) → Roomy limit cs →
     Claim start (decode limit (encode cs)) clocks k callList reportList countList r → Claim start cs clocks k callList reportList countList r
 of-every-list start limit cs clocks k callList reportList countList r h c = rw (decode-encode limit cs h) at c

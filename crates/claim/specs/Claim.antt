@@ -15,7 +15,7 @@ use Rattle.store.specs.Issuers.{pairsIn}
 use Rattle.ledger.specs.declared.Ledger.{Ledger}
 use Rattle.ledger.specs.Contents.{contents, Held}
 use Rattle.ledger.specs.Meets.{written}
-use Rattle.claim.specs.declared.Replayed.{Replayed}
+use Rattle.claim.specs.declared.RunAndPruned.{RunAndPruned}
 use Rattle.claim.specs.Calls.{decode, lentAfter}
 use Rattle.claim.specs.Series.{steady, allCounts, firstsOf, secondsOf, reportsIn, AsCalls}
 
@@ -45,7 +45,7 @@ mayPrune clocks reportList countList = steady 0 clocks && (leb 144 (length repor
 -- that the ledger is known after each of them, with its index; k = 0 is the ledger before the prunes. One list of 144 words in all is lent
 -- for the reports, and not one for each prune: that is the stronger claim, since what has fallen and what stands are never more than 48, so
 -- no prune is refused that room for 48 reports would let through (`calls`), and what each wrote is still there after the last.
-pub record InTurn (p : Plain) (clocks : List ℕ) (k : ℕ) (reportList countList : Lent) (r : Replayed) : Type 0 where
+pub record InTurn (p : Plain) (clocks : List ℕ) (k : ℕ) (reportList countList : Lent) (r : RunAndPruned) : Type 0 where
   -- shut out: prunes at the last clock alone, the first clock left out, clocks in another order; for some k the ledger then differs
   pub between : Equals (prunes (take k clocks) p) (r .between)
   -- shut out: one prune too few at the end
@@ -62,7 +62,7 @@ pub record InTurn (p : Plain) (clocks : List ℕ) (k : ℕ) (reportList countLis
   pub calls : AsCalls clocks p
 
 -- 'and leave and report what one prune at the last would'
-pub record AsOne (p : Plain) (clocks : List ℕ) (last : ℕ) (reportList countList : Lent) (r : Replayed) : Type 0 where
+pub record AsOne (p : Plain) (clocks : List ℕ) (last : ℕ) (reportList countList : Lent) (r : RunAndPruned) : Type 0 where
   -- 'after the prunes, those of the plain ledger pruned once'; shut out: a departure dropped on the way that the last prune would have kept
   pub left : Equals (pruned last p) (r .after)
   -- 'with local, spans and count unchanged'; shut out: a prune that starts the running count again
@@ -83,7 +83,7 @@ pub record AsOne (p : Plain) (clocks : List ℕ) (last : ℕ) (reportList countL
 
 -- Where the clocks fall or are no times, or a list is too short, no prune is made: the ledger before is handed back, both numbers are 0 and
 -- neither list is touched. Shut out: a program that answers or writes anything there.
-pub record NoPrune (reportList countList : Lent) (r : Replayed) : Type 0 where
+pub record NoPrune (reportList countList : Lent) (r : RunAndPruned) : Type 0 where
   pub between : r .between ≡ r .before
   pub after : r .after ≡ r .before
   pub gone : r .fallen ≡ 0
@@ -92,10 +92,10 @@ pub record NoPrune (reportList countList : Lent) (r : Replayed) : Type 0 where
   pub counts : countList .is ≡ countList .was
 
 -- The claim about a list of calls and the clocks after it, from a ledger that holds `start`: 'a fresh ledger is what a making hands back, a
--- refused one too' (`claim::replay`), or any that a call handed back (`replay_from`). `start` is fed nothing but the calls' arguments and
+-- refused one too' (`claim::run_and_prune`), or any that a call handed back (`run_and_prune_from`). `start` is fed nothing but the calls' arguments and
 -- the lengths of their lent lists; shut out: a program that is right only of what it holds itself. It holds of 'every list of calls'
 -- (`decode` reaches each, proofs/Decoding.antt) and of every list of clocks, so also after each call.
-pub record Claim (start : Plain) (calls : List Call) (clocks : List ℕ) (k : ℕ) (callList reportList countList : Lent) (r : Replayed) : Type 0 where
+pub record Claim (start : Plain) (calls : List Call) (clocks : List ℕ) (k : ℕ) (callList reportList countList : Lent) (r : RunAndPruned) : Type 0 where
   -- 'the contents are what the rules give for that list'; shut out: a call left out, made twice, or lent a longer list than it asks for
   pub listed : Equals (run calls start) (r .before)
   -- what one outcome writes and then what the next; shut out: a call that is refused and writes, and one that touches words beyond its own
@@ -108,5 +108,5 @@ pub record Claim (start : Plain) (calls : List Call) (clocks : List ℕ) (k : �
   pub noPrune : r .made ≡ false → NoPrune reportList countList r
 
 -- the claim of calls that are given as words, and of the three lists as they were lent and as they were left
-abbrev pub Claims : Plain → List ℕ → List ℕ → ℕ → (l l' r r' c c' : List ℕ) → Replayed → Type 0
+abbrev pub Claims : Plain → List ℕ → List ℕ → ℕ → (l l' r r' c c' : List ℕ) → RunAndPruned → Type 0
 Claims start words clocks k l l' r r' c c' handed = Claim start (decode (length l) words) clocks k (lent l l') (lent r r') (lent c c') handed

@@ -15,7 +15,7 @@ use types::Shard;
 
 // Whether the prunes were made; how many fell and how many reports were written in all; the ledger before the prunes, after the first of them
 // that the caller asked for, and after the last.
-pub struct Replayed {
+pub struct RunAndPruned {
     pub made: bool,
     pub fallen: u64,
     pub written: usize,
@@ -25,7 +25,7 @@ pub struct Replayed {
 }
 
 // The claim from any ledger that a call handed back.
-pub fn replay_from(
+pub fn run_and_prune_from(
     start: Ledger,
     calls: &[u64],
     clocks: &[u64],
@@ -33,13 +33,13 @@ pub fn replay_from(
     lent: &mut [u64],
     reports: &mut [u64],
     counts: &mut [u64],
-) -> Replayed
+) -> RunAndPruned
     requires { ⌜ Held start ⌝ }
     ensures { λ r. ⌜ Claims (contents start) (now (calls .entry)) (now (clocks .entry)) k (now (lent .entry)) (now (lent .exit)) (now (reports .entry)) (now (reports .exit)) (now (counts .entry)) (now (counts .exit)) r ⌝ }
 {
     let before = run_calls(start, calls, lent);
     if !may_prune(clocks, reports.len(), counts.len()) {
-        return Replayed {
+        return RunAndPruned {
             made: false,
             fallen: 0,
             written: 0,
@@ -51,7 +51,7 @@ pub fn replay_from(
     let p = prune_all(before, clocks, k, reports, counts);
     let between = p.between;
     let after = p.ledger;
-    Replayed {
+    RunAndPruned {
         made: true,
         fallen: p.fallen,
         written: p.written,
@@ -62,7 +62,7 @@ pub fn replay_from(
 }
 
 // The claim: a making, every list of calls, and then every list of clocks.
-pub fn replay(
+pub fn run_and_prune(
     local: Shard,
     validity: u64,
     core_span: u64,
@@ -73,9 +73,9 @@ pub fn replay(
     lent: &mut [u64],
     reports: &mut [u64],
     counts: &mut [u64],
-) -> Replayed
+) -> RunAndPruned
     ensures { λ r. ⌜ Claims (making (local .0) validity «core_span» «leg_span» .ledger) (now (calls .entry)) (now (clocks .entry)) k (now (lent .entry)) (now (lent .exit)) (now (reports .entry)) (now (reports .exit)) (now (counts .entry)) (now (counts .exit)) r ⌝ }
 {
     let made = new(local, validity, core_span, leg_span);
-    replay_from(made.ledger, calls, clocks, k, lent, reports, counts)
+    run_and_prune_from(made.ledger, calls, clocks, k, lent, reports, counts)
 }

@@ -6,7 +6,7 @@ use mathlib.Core.List.{List, [], _∷_, append-nil}
 use Rattle.rules.specs.Outcome.{Outcome}
 use Rattle.ledger.specs.declared.Done.{Done}
 use Rattle.ledger.specs.Meets.{Meets, written}
-use Rattle.readings.specs.declared.Told.{Told}
+use Rattle.readings.specs.declared.Answer.{Answer}
 use Rattle.readings.specs.Reads.{Reads}
 
 -- what is written of no words into no list is nothing
@@ -25,6 +25,6 @@ beside o r lent m =
       held = m .held;
     }
 
-pub beside-reading : (o : Outcome) (r : Told) (lent : List ℕ) → Reads o [] [] r → Reads o lent lent r
+pub beside-reading : (o : Outcome) (r : Answer) (lent : List ℕ) → Reads o [] [] r → Reads o lent lent r
 beside-reading o r lent m =
     record { refused = m .refused; answer = m .answer; wrote = rw (nothing (o .words) (m .wrote)) refl }

@@ -9,7 +9,7 @@ use entry_lists::issuers_of;
 use entry_lists::past_deadline;
 use entry_lists::questions;
 use ledger::Ledger;
-use readings::Told;
+use readings::Answer;
 use readings::lookups;
 use shard_lists::claimants;
 use shard_lists::counterparts;
@@ -22,7 +22,7 @@ use types::Transaction;
 use words::slices::word_at;
 
 // The reading of a kind. Words that are missing count as 0, and a reading that takes no list leaves the lent one as it is.
-pub fn ask(ledger: Ledger, kind: u64, words: &[u64], lent: &mut [u64]) -> Told
+pub fn ask(ledger: Ledger, kind: u64, words: &[u64], lent: &mut [u64]) -> Answer
     requires { ⌜ Held ledger ⌝ }
     ensures { λ r. ⌜ Reads (read (readingOf kind (now (words .entry)) (length (now (lent .entry)))) (contents ledger)) (now (lent .entry)) (now (lent .exit)) r ⌝ }
 {
@@ -41,7 +41,7 @@ pub fn ask(ledger: Ledger, kind: u64, words: &[u64], lent: &mut [u64]) -> Told
 }
 
 // A lookup: a reading that is lent no list.
-fn look_up(ledger: Ledger, kind: u64, words: &[u64]) -> Told
+fn look_up(ledger: Ledger, kind: u64, words: &[u64]) -> Answer
     requires { ⌜ Held ledger ⌝ }
     ensures { λ r. ⌜ Reads (read (lookupOf kind (now (words .entry))) (contents ledger)) [] [] r ⌝ }
 {
@@ -62,7 +62,7 @@ fn look_up(ledger: Ledger, kind: u64, words: &[u64]) -> Told
 }
 
 // A question as it is handed in, transaction, shard, key, at, end, and then the clock.
-fn open_at(ledger: Ledger, words: &[u64]) -> Told
+fn open_at(ledger: Ledger, words: &[u64]) -> Answer
     requires { ⌜ Held ledger ⌝ }
     ensures { λ r. ⌜ Reads (read (questionOpen (now (words .entry))) (contents ledger)) [] [] r ⌝ }
 {
@@ -75,7 +75,7 @@ fn open_at(ledger: Ledger, words: &[u64]) -> Told
 }
 
 // A question as it is handed in, then when the cell was read and what was found.
-fn answers(ledger: Ledger, words: &[u64]) -> Told
+fn answers(ledger: Ledger, words: &[u64]) -> Answer
     requires { ⌜ Held ledger ⌝ }
     ensures { λ r. ⌜ Reads (read (questionAnswered (now (words .entry))) (contents ledger)) [] [] r ⌝ }
 {

@@ -23,7 +23,7 @@ use Rattle.rules.specs.Plain as plain
 use Rattle.rules.specs.Plain.{Edge, Absence, Terms, absenceKey, edgesFrom, issued, issues, isSettling}
 use Rattle.rules.specs.Good.{GoodEntry, GoodPart, Marked}
 use Rattle.entry.specs.declared.Entry.{Entry}
-use Rattle.entry.specs.Entry.{plainEntry, plainPart, absence, absencesOf, below, lower, Fits, Opened, RoomForAbsence, RoomForMark}
+use Rattle.entry.specs.Entry.{plainEntry, plainPart, absence, absencesOf, below, lower, Fits, Inserted, RoomForAbsence, RoomForMark}
 use Rattle.entry.proofs.Absent.{length-absences}
 
 -- a flag that one of two raises, as the code comes by it
@@ -46,7 +46,7 @@ module _ (e : Entry) (r : ℕ) (room : RoomForMark r e) where
   pub mark-rank : rank (lower r) marks ≤ e .«marks_len»
   mark-rank = omega (arith, rank-le (lower r) marks, length-marks)
 
-  pub mark-put : (k : ℕ) (a : List ℕ) → has self r marks ≡ false → k ≡ rank (lower r) marks → Opened (e .marks) (e .«marks_len») k r a →
+  pub mark-put : (k : ℕ) (a : List ℕ) → has self r marks ≡ false → k ≡ rank (lower r) marks → Inserted (e .marks) (e .«marks_len») k r a →
       take (e .«marks_len» + 1) a ≡ include self r marks
   mark-put k a new at o = rw (add-one (e .«marks_len»), o .front, at) (include-rank self r marks new)
 
@@ -65,7 +65,7 @@ module _ (e : Entry) (shard key : ℕ) (room : RoomForAbsence (absence shard key
   absence-rank = omega (arith, rank-le (below it) (absencesOf e), length-absences e (room .fits))
 
   pub absence-put : (k : ℕ) (s t : List ℕ) → has absenceKey (absenceKey it) (absencesOf e) ≡ false → k ≡ rank (below it) (absencesOf e) →
-      Opened (e .«absent_shards») n k shard s → Opened (e .«absent_keys») n k key t →
+      Inserted (e .«absent_shards») n k shard s → Inserted (e .«absent_keys») n k key t →
       zipBy absence (take (e .«absences_len» + 1) s) (take (e .«absences_len» + 1) t) ≡ include absenceKey it (absencesOf e)
   absence-put k s t new at o p =
       let h = length-take-le n (e .«absent_shards») (omega (arith, room .fits .absencesLen, room .fits .absentShards)) in

@@ -50,7 +50,7 @@ plainEntry e =
       terms = termsOf e;
       part = plainPart (e .part);
       certificate = e .certified;
-      naming = e .naming .0;
+      departedBy = e .«departed_by» .0;
       absences = absencesOf e;
       marks = take (e .«marks_len») (e .marks);
       returned = e .returned;
@@ -91,7 +91,7 @@ abbrev pub isMarked : Entry → ℕ → Bool
 isMarked e r = has self r (take (e .«marks_len») (e .marks))
 
 -- an array whose first n had x put in at k
-pub record Opened (a : List ℕ) (n k x : ℕ) (b : List ℕ) : Type 0 where
+pub record Inserted (a : List ℕ) (n k x : ℕ) (b : List ℕ) : Type 0 where
   pub front : take (suc n) b ≡ insertAt k x (take n a)
   pub size : length b ≡ 8
 

@@ -8,9 +8,9 @@ ghost use Rattle.lists.specs.Lists.{all, has, include, self as itself, filled, 
 ghost use Rattle.lists.specs.Arrays.{rank as rankOf};
 ghost use Rattle.rules.specs.Numbers.{recordKey, isShard};
 ghost use Rattle.rules.specs.Plain.{partNumber, isCore, isLeg, isSettling, isCovered, issued, issues, owes, remote, remainder, absenceKey};
-ghost use Rattle.rules.specs.Entries.{certified, withNaming, withPart, withMarks, marked, readAbsent, isRead, isClosed};
+ghost use Rattle.rules.specs.Entries.{certified, withDepartedBy, withPart, withMarks, marked, readAbsent, isRead, isClosed};
 ghost use Rattle.rules.specs.Good.{GoodEntry};
-ghost use Rattle.entry.specs.Entry.{plainEntry, plainPart, absence, below, lower, isMarked, Fits, Means, Opened, RoomForAbsence, RoomForMark};
+ghost use Rattle.entry.specs.Entry.{plainEntry, plainPart, absence, below, lower, isMarked, Fits, Means, Inserted, RoomForAbsence, RoomForMark};
 use types::RecordKey;
 use types::Shard;
 use types::Time;
@@ -23,7 +23,7 @@ pub enum Part {
     Remainder,
 }
 
-// naming is shard 0 while no record names the entry. An edge's id, from-shard, kind (1 owed) and number of destinations stand at its
+// departed_by is shard 0 while no record names the entry. An edge's id, from-shard, kind (1 owed) and number of destinations stand at its
 // place in four arrays; the destinations lie joined in a fifth. Absences rise by shard and then key, marks rise.
 pub struct Entry {
     pub tx: Transaction,
@@ -31,7 +31,7 @@ pub struct Entry {
     pub end: Time,
     pub anchor: Time,
     pub charge: u64,
-    pub naming: Shard,
+    pub departed_by: Shard,
     pub part: Part,
     pub certified: u8,
     pub returned: bool,
@@ -61,7 +61,7 @@ pub fn is_issue(from: Shard, id: u64, local: Shard, r: RecordKey) -> bool
 }
 
 // Whether an edge is owed from this shard.
-fn is_debt(from: Shard, kind: u8, local: Shard) -> bool
+fn is_owed_edge(from: Shard, kind: u8, local: Shard) -> bool
     ensures { λ r. ⌜ r ≡ eqb (from .0) (local .0) && eqb kind 1 ⌝ }
 {
     from.0 == local.0 && kind == 1
@@ -126,9 +126,9 @@ fn rank_absence(shards: [u64; 8], keys: [u64; 8], n: usize, shard: Shard, key: u
 }
 
 // The first n with x put in at k.
-fn opened(items: [u64; 8], n: usize, k: usize, x: u64) -> [u64; 8]
+fn insert_at(items: [u64; 8], n: usize, k: usize, x: u64) -> [u64; 8]
     requires { ⌜ (k ≤ n) × (n < 8) ⌝ }
-    ensures { λ r. ⌜ Opened items n k x r ⌝ }
+    ensures { λ r. ⌜ Inserted items n k x r ⌝ }
 {
     let mut a = items;
     let mut i = n;
@@ -201,7 +201,7 @@ impl Entry {
             end: Time(0),
             anchor: Time(0),
             charge: 0,
-            naming: Shard(0),
+            departed_by: Shard(0),
             part: Part::Whole,
             certified: 0,
             returned: false,
@@ -236,12 +236,12 @@ impl Entry {
     }
 
     // The entry named by a shard's record, over any older name.
-    pub fn with_naming(self, shard: Shard) -> Entry
+    pub fn with_departed_by(self, shard: Shard) -> Entry
         requires { ⌜ Fits self ⌝ }
-        ensures { λ r. ⌜ Means (withNaming (shard .0) (plainEntry self)) r ⌝ }
+        ensures { λ r. ⌜ Means (withDepartedBy (shard .0) (plainEntry self)) r ⌝ }
     {
         let mut e = self;
-        e.naming = shard;
+        e.departed_by = shard;
         e
     }
 
@@ -250,7 +250,7 @@ impl Entry {
         requires { ⌜ Fits self ⌝ }
         ensures { λ r. ⌜ r ≡ isCovered (plainEntry self) ⌝ }
     {
-        self.naming.0 > 0 || self.absences_len > 0
+        self.departed_by.0 > 0 || self.absences_len > 0
     }
 
     // Whether an edge from local has this record key.
@@ -277,7 +277,7 @@ impl Entry {
         let n = self.edges_len as usize;
         let mut i: usize = 0;
         while i < n {
-            if is_debt(Shard(self.froms[i]), self.kinds[i], local) {
+            if is_owed_edge(Shard(self.froms[i]), self.kinds[i], local) {
                 return true;
             }
             i += 1;
@@ -336,8 +336,8 @@ impl Entry {
         let shards = self.absent_shards;
         let keys = self.absent_keys;
         let k = rank_absence(shards, keys, n, shard, key);
-        let s = opened(shards, n, k, shard.0);
-        let t = opened(keys, n, k, key);
+        let s = insert_at(shards, n, k, shard.0);
+        let t = insert_at(keys, n, k, key);
         let mut e = self;
         e.absent_shards = s;
         e.absent_keys = t;
@@ -368,7 +368,7 @@ impl Entry {
             return e;
         }
         let k = rank(marks, n, r);
-        let m = opened(marks, n, k, r.0);
+        let m = insert_at(marks, n, k, r.0);
         e.marks = m;
         e.marks_len += 1;
         e
@@ -390,7 +390,7 @@ impl Entry {
     }
 
     // The entry as a remainder, with nothing marked yet.
-    pub fn turned(self) -> Entry
+    pub fn resolve(self) -> Entry
         requires { ⌜ Fits self ⌝ }
         ensures { λ r. ⌜ Means (withPart remainder (plainEntry self)) r ⌝ }
     {
@@ -409,7 +409,7 @@ impl Entry {
             end: Time(self.end.0),
             anchor: Time(self.anchor.0),
             charge: self.charge,
-            naming: Shard(self.naming.0),
+            departed_by: Shard(self.departed_by.0),
             part: Part::Remainder,
             certified: self.certified,
             returned: false,

@@ -12,7 +12,7 @@ use Rattle.lists.proofs.Keep.{concatMap-append}
 use Rattle.lists.proofs.Listing.{length-words, sets-append, sets-front}
 use Rattle.rules.specs.Plain.{Plain}
 use Rattle.rules.specs.Readings.{listing}
-use Rattle.readings.specs.declared.Told.{Told}
+use Rattle.readings.specs.declared.Answer.{Answer}
 use Rattle.readings.specs.Reads.{Reads}
 use Rattle.readings.specs.Answers.{Lists}
 use Rattle.readings.proofs.Written.{reads-list}
@@ -78,7 +78,7 @@ module _ {A : Type 0} (words : A → List ℕ) (k : ℕ) (each : (x : A) → len
       ∙ take-append-le (length all) all (drop (length all) before) (omega arith)
       ∙ take-all (length all) all (omega arith)
 
-  pub reads-run : (items : List A) (before after : List ℕ) (n : ℕ) (p : Plain) (m : ℕ) (lent out : List ℕ) (r : Told) → m ≡ 0 → Ran words k items before 0 after n →
+  pub reads-run : (items : List A) (before after : List ℕ) (n : ℕ) (p : Plain) (m : ℕ) (lent out : List ℕ) (r : Answer) → m ≡ 0 → Ran words k items before 0 after n →
       Lists (take (k * n) after) n lent out r → Reads (listing m (length lent) words items p) lent out r
   reads-run items before after n p m lent out r z h w =
       let count : n ≡ length items = omega (arith, h .end) in

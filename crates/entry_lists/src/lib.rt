@@ -13,9 +13,9 @@ ghost use Rattle.entry_lists.specs.Tests.{isAsking, asksOf, isPast, hold
 ghost use Rattle.entry_lists.specs.Runs.{Ran};
 use entry::Entry;
 use ledger::Ledger;
-use readings::Told;
-use readings::telling::list;
-use readings::telling::refusal;
+use readings::Answer;
+use readings::reply::list;
+use readings::reply::refusal;
 use types::Shard;
 use types::Time;
 
@@ -81,7 +81,7 @@ fn gather_questions(ledger: Ledger, words: &mut [u64; 1920]) -> usize
 }
 
 // Each core shard but local of each uncovered core entry, with its cell key.
-pub fn questions(ledger: Ledger, lent: &mut [u64]) -> Told
+pub fn questions(ledger: Ledger, lent: &mut [u64]) -> Answer
     requires { ⌜ Held ledger ⌝ }
     ensures { λ r. ⌜ Reads (read (askQuestions (length (now (lent .entry)))) (contents ledger)) (now (lent .entry)) (now (lent .exit)) r ⌝ }
 {
@@ -136,7 +136,7 @@ fn gather_past(ledger: Ledger, time: Time, words: &mut [u64; 240]) -> usize
 }
 
 // The entries past their deadline that no settlement ends.
-pub fn past_deadline(ledger: Ledger, time: Time, lent: &mut [u64]) -> Told
+pub fn past_deadline(ledger: Ledger, time: Time, lent: &mut [u64]) -> Answer
     requires { ⌜ Held ledger ⌝ }
     ensures { λ r. ⌜ Reads (read (listPastDeadline (time .0) (length (now (lent .entry)))) (contents ledger)) (now (lent .entry)) (now (lent .exit)) r ⌝ }
 {
@@ -198,7 +198,7 @@ fn gather_issuers(ledger: Ledger, id: u64, words: &mut [u64; 96]) -> usize
 }
 
 // Those that issued this very id. An edge from local that has the id is in the index under the id's key, which is thus not asked.
-pub fn issuers_of(ledger: Ledger, id: u64, lent: &mut [u64]) -> Told
+pub fn issuers_of(ledger: Ledger, id: u64, lent: &mut [u64]) -> Answer
     requires { ⌜ Held ledger ⌝ }
     ensures { λ r. ⌜ Reads (read (listIssuers id (length (now (lent .entry)))) (contents ledger)) (now (lent .entry)) (now (lent .exit)) r ⌝ }
 {

@@ -11,8 +11,8 @@ use Rattle.lists.proofs.Tests.{and-right, and-false}
 use Rattle.rules.specs.Numbers.{isTime, isSpan}
 use Rattle.rules.specs.Plain.{Entry, Plain, isCore, isSettling, isNamed, remote}
 use Rattle.rules.specs.Prune.{Rule, awaiting, settling, recorded, answering, expiring, ruleOf, stands, standsBy, isReported, coveredBy}
-use Rattle.judge.specs.Answers.{answersYet}
-use Rattle.judge.specs.Verdict.{Says, unlessTold, unlessQuiet, byRoutes}
+use Rattle.judge.specs.Answers.{isAnswerable}
+use Rattle.judge.specs.Verdict.{Says, reportedUnless, quietUnless, byRoutes}
 
 pub sum-fits : (a s : ℕ) → isTime a ≡ true → isSpan s ≡ true → a + s < 2 ^ 64
 sum-fits a s t h =
@@ -54,46 +54,46 @@ module _ (p : Plain) (now : ℕ) (e : Entry) where
     by-rule : (b : Bool) → standsBy rule p now e ≡ b → stands p now e ≡ b
     by-rule b h = ap (λ r. standsBy r p now e) fits ∙ h
 
-    pub says-quiet : isReported rule ≡ false → Says (unlessQuiet (standsBy rule p now e)) p now e
+    pub says-quiet : isReported rule ≡ false → Says (quietUnless (standsBy rule p now e)) p now e
     says-quiet silent = go (standsBy rule p now e) refl
       where
-        go : (b : Bool) → standsBy rule p now e ≡ b → Says (unlessQuiet b) p now e
+        go : (b : Bool) → standsBy rule p now e ≡ b → Says (quietUnless b) p now e
         go true h = by-rule true h
         go false h = (by-rule false h, ap isReported fits ∙ silent)
 
-    pub says-told : isReported rule ≡ true → Says (unlessTold (coveredBy rule) (standsBy rule p now e)) p now e
-    says-told loud = go (standsBy rule p now e) refl
+    pub says-reported : isReported rule ≡ true → Says (reportedUnless (coveredBy rule) (standsBy rule p now e)) p now e
+    says-reported loud = go (standsBy rule p now e) refl
       where
-        go : (b : Bool) → standsBy rule p now e ≡ b → Says (unlessTold (coveredBy rule) b) p now e
+        go : (b : Bool) → standsBy rule p now e ≡ b → Says (reportedUnless (coveredBy rule) b) p now e
         go true h = by-rule true h
         go false h = (by-rule false h, ap isReported fits ∙ loud, ap coveredBy fits)
 
   pub says-routes : ruleOf (p .local) e ≡ cond (fourth-test (p .local) e) answering expiring → Says (byRoutes p now e) p now e
   says-routes fits = go (fourth-test (p .local) e) fits
     where
-      go : (b : Bool) → ruleOf (p .local) e ≡ cond b answering expiring → Says (cond b (unlessTold 0 (standsBy answering p now e)) (unlessQuiet (standsBy expiring p now e))) p now e
-      go true h = says-told answering h refl
+      go : (b : Bool) → ruleOf (p .local) e ≡ cond b answering expiring → Says (cond b (reportedUnless 0 (standsBy answering p now e)) (quietUnless (standsBy expiring p now e))) p now e
+      go true h = says-reported answering h refl
       go false h = says-quiet expiring h refl
 
   -- by routes: rule 4 where an entry has a certificate and a remote route, else rule 5
   module _ (home : ℕ) (local : p .local ≡ home) where
-    pub by-answering : (b : Bool) → ltb 0 (e .certificate) ≡ true → filled (remote home (e .terms)) ≡ true → b ≡ answersYet now (p .departures) home e → unlessTold 0 b ≡ byRoutes p now e
+    pub by-answering : (b : Bool) → ltb 0 (e .certificate) ≡ true → filled (remote home (e .terms)) ≡ true → b ≡ isAnswerable now (p .departures) home e → reportedUnless 0 b ≡ byRoutes p now e
     by-answering b c f h =
-        ap (unlessTold 0) (h ∙ ap (λ m. answersYet now (p .departures) m e) (sym local))
+        ap (reportedUnless 0) (h ∙ ap (λ m. isAnswerable now (p .departures) m e) (sym local))
         ∙ pick (fourth-test (p .local) e) (rw c (ap (λ m. filled (remote m (e .terms))) local ∙ f))
       where
-        pick : (b : Bool) → b ≡ true → unlessTold 0 (standsBy answering p now e) ≡ cond b (unlessTold 0 (standsBy answering p now e)) (unlessQuiet (standsBy expiring p now e))
+        pick : (b : Bool) → b ≡ true → reportedUnless 0 (standsBy answering p now e) ≡ cond b (reportedUnless 0 (standsBy answering p now e)) (quietUnless (standsBy expiring p now e))
         pick b h = rw h
 
-    by-expiring : (v : ℕ) → p .validity ≡ v → fourth-test (p .local) e ≡ false → unlessQuiet (ltb now (e .terms .at + v)) ≡ byRoutes p now e
-    by-expiring v h t = ap (λ m. unlessQuiet (ltb now (e .terms .at + m))) (sym h) ∙ pick (fourth-test (p .local) e) t
+    by-expiring : (v : ℕ) → p .validity ≡ v → fourth-test (p .local) e ≡ false → quietUnless (ltb now (e .terms .at + v)) ≡ byRoutes p now e
+    by-expiring v h t = ap (λ m. quietUnless (ltb now (e .terms .at + m))) (sym h) ∙ pick (fourth-test (p .local) e) t
       where
-        pick : (b : Bool) → b ≡ false → unlessQuiet (standsBy expiring p now e) ≡ cond b (unlessTold 0 (standsBy answering p now e)) (unlessQuiet (standsBy expiring p now e))
+        pick : (b : Bool) → b ≡ false → quietUnless (standsBy expiring p now e) ≡ cond b (reportedUnless 0 (standsBy answering p now e)) (quietUnless (standsBy expiring p now e))
         pick b h = rw h
 
-    pub by-no-certificate : (v : ℕ) → p .validity ≡ v → ltb 0 (e .certificate) ≡ false → unlessQuiet (ltb now (e .terms .at + v)) ≡ byRoutes p now e
+    pub by-no-certificate : (v : ℕ) → p .validity ≡ v → ltb 0 (e .certificate) ≡ false → quietUnless (ltb now (e .terms .at + v)) ≡ byRoutes p now e
     by-no-certificate v h c = by-expiring v h (rw c)
 
-    pub by-no-remote : (v : ℕ) → p .validity ≡ v → filled (remote home (e .terms)) ≡ false → unlessQuiet (ltb now (e .terms .at + v)) ≡ byRoutes p now e
+    pub by-no-remote : (v : ℕ) → p .validity ≡ v → filled (remote home (e .terms)) ≡ false → quietUnless (ltb now (e .terms .at + v)) ≡ byRoutes p now e
     by-no-remote v h f =
         by-expiring v h (ap (λ b. ltb 0 (e .certificate) && b) (ap (λ m. filled (remote m (e .terms))) local ∙ f) ∙ and-false (ltb 0 (e .certificate)))

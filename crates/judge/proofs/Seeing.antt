@@ -17,10 +17,10 @@ use Rattle.lists.proofs.Tests.{or-left, and-left, and-both, and-false}
 use Rattle.lists.proofs.Keep.{any-same}
 use Rattle.rules.specs.Numbers.{owns, isShard}
 use Rattle.rules.specs.Plain.{isRemote, Departure, Entry, shardOf, isNamed}
-use Rattle.rules.specs.Prune.{readable, counting, earlier, countsBefore, answerable, isOfNaming, holds}
+use Rattle.rules.specs.Prune.{readable, counting, earlier, countsBefore, answerable, isOfDepartedBy, holds}
 use Rattle.rules.specs.Good.{GoodDeparture}
 use Rattle.types.proofs.Bits.{topped, owned}
-use Rattle.judge.specs.Answers.{Asks, answersYet, coversSome, namedReadable}
+use Rattle.judge.specs.Answers.{Asks, isAnswerable, coversSome, namedReadable}
 use Rattle.judge.specs.View.{Shows, cutOf, zerosOf}
 use Rattle.judge.specs.declared.views.View.{View}
 
@@ -59,12 +59,12 @@ abbrev pub overAt : ℕ → ℕ → Departure → Bool
 overAt anchor route d = owns (d .shard) route && ltb anchor (d .cut)
 
 -- what one shift and one comparison tell
-abbrev pub told : ℕ → ℕ → ℕ → ℕ → ℕ → Bool
-told anchor route shard zeros cut = eqb ((route / 2 + 2 ^ 63) / 2 ^ zeros) shard && ltb anchor cut
+abbrev pub overBy : ℕ → ℕ → ℕ → ℕ → ℕ → Bool
+overBy anchor route shard zeros cut = eqb ((route / 2 + 2 ^ 63) / 2 ^ zeros) shard && ltb anchor cut
 
-pub told-over : (anchor route : ℕ) (d : Departure) (shard zeros cut : ℕ) → isShard (d .shard) ≡ true → shard ≡ d .shard → zeros ≡ zerosOf d → cut ≡ d .cut →
-    told anchor route shard zeros cut ≡ overAt anchor route d
-told-over anchor route d shard zeros cut good es ez ec =
+pub overBy-over : (anchor route : ℕ) (d : Departure) (shard zeros cut : ℕ) → isShard (d .shard) ≡ true → shard ≡ d .shard → zeros ≡ zerosOf d → cut ≡ d .cut →
+    overBy anchor route shard zeros cut ≡ overAt anchor route d
+overBy-over anchor route d shard zeros cut good es ez ec =
     rw (es, ez, ec) (ap (λ b. b && ltb anchor (d .cut)) (owned (d .shard) route (topped (d .shard) good)))
 
 -- the best of the departures gone through: its cut, its shard and whether it is readable; with none, a cut above all
@@ -113,15 +113,15 @@ module _ (now : ℕ) (d : Departure) (good : GoodDeparture d) where
     count-none false e t = rw (sym e) h
 
 -- a departure over a remote route, as it is told, and that some route of an entry is one
-abbrev pub toldRemote : ℕ → ℕ → ℕ → ℕ → ℕ → ℕ → Bool
-toldRemote anchor local shard zeros cut route = isRemote local route && told anchor route shard zeros cut
+abbrev pub overByRemote : ℕ → ℕ → ℕ → ℕ → ℕ → ℕ → Bool
+overByRemote anchor local shard zeros cut route = isRemote local route && overBy anchor route shard zeros cut
 
 pub said-covers : (local : ℕ) (routes : List ℕ) (d : Departure) (e : Entry) (r : Bool) (anchor shard zeros cut : ℕ) → isShard (d .shard) ≡ true → shard ≡ d .shard →
-    zeros ≡ zerosOf d → cut ≡ d .cut → Asks routes anchor e → r ≡ any (toldRemote anchor local shard zeros cut) routes → r ≡ coversSome local d e
+    zeros ≡ zerosOf d → cut ≡ d .cut → Asks routes anchor e → r ≡ any (overByRemote anchor local shard zeros cut) routes → r ≡ coversSome local d e
 said-covers local routes d e r anchor shard zeros cut good es ez ec asks h =
     h
-    ∙ any-same (toldRemote anchor local shard zeros cut) (λ x. isRemote local x && overAt anchor x d) routes
-    (λ x m. ap (λ b. isRemote local x && b) (told-over anchor x d shard zeros cut good es ez ec))
+    ∙ any-same (overByRemote anchor local shard zeros cut) (λ x. isRemote local x && overAt anchor x d) routes
+    (λ x m. ap (λ b. isRemote local x && b) (overBy-over anchor x d shard zeros cut good es ez ec))
     ∙ sym (any-kept (λ x. overAt anchor x d) (isRemote local) routes)
     ∙ rw (asks .anchor, asks .routes)
 
@@ -132,7 +132,7 @@ nobody = record { shard = 0; cut = 0; stamp = none }
 module _ (ds : List Departure) (now : ℕ) (v : View) (s : Shows ds now v) (anchor route j best lowest : ℕ) (answers : Bool) (p : 0 < j) (k : j ≤ v .len)
     (h : Best now (counting (keep (overAt anchor route) (drop j ds))) best lowest answers) where
   abbrev at-place : ℕ → ℕ → Bool
-  at-place shard cut = told anchor route shard (getD (v .zeros) (j - 1) 0) cut
+  at-place shard cut = overBy anchor route shard (getD (v .zeros) (j - 1) 0) cut
 
   pub turn-won : (b : Bool) → at-place (getD (v .shards) (j - 1) 0) (getD (v .cuts) (j - 1) 0) && wins (getD (v .cuts) (j - 1) 0) (getD (v .shards) (j - 1) 0) best lowest ≡ true →
       Best now (counting (keep (overAt anchor route) (drop (j - 1) ds))) (getD (v .cuts) (j - 1) 0) (getD (v .shards) (j - 1) 0) (getD (v .readable) (j - 1) b)
@@ -141,7 +141,7 @@ module _ (ds : List Departure) (now : ℕ) (v : View) (s : Shows ds now v) (anch
       let see = sees ds now v s (j - 1) nobody (omega arith) in
       rw (rest-down ds j nobody p (omega (arith, count ds now v s)), see .shard, see .cut, see .readable b)
       (count-one now d (see .good) (overAt anchor route) (drop j ds) best lowest answers h (at-place (d .shard) (d .cut))
-      (told-over anchor route d (d .shard) _ (d .cut) (see .good .shard) refl (see .zeros) refl) (rw (see .shard, see .cut) at t))
+      (overBy-over anchor route d (d .shard) _ (d .cut) (see .good .shard) refl (see .zeros) refl) (rw (see .shard, see .cut) at t))
 
   pub turn-lost : at-place (getD (v .shards) (j - 1) 0) (getD (v .cuts) (j - 1) 0) && wins (getD (v .cuts) (j - 1) 0) (getD (v .shards) (j - 1) 0) best lowest ≡ false →
       Best now (counting (keep (overAt anchor route) (drop (j - 1) ds))) best lowest answers
@@ -150,7 +150,7 @@ module _ (ds : List Departure) (now : ℕ) (v : View) (s : Shows ds now v) (anch
       let see = sees ds now v s (j - 1) nobody (omega arith) in
       rw (rest-down ds j nobody p (omega (arith, count ds now v s)))
       (count-none now d (see .good) (overAt anchor route) (drop j ds) best lowest answers h (at-place (d .shard) (d .cut))
-      (told-over anchor route d (d .shard) _ (d .cut) (see .good .shard) refl (see .zeros) refl) (rw (see .shard, see .cut) at t))
+      (overBy-over anchor route d (d .shard) _ (d .cut) (see .good .shard) refl (see .zeros) refl) (rw (see .shard, see .cut) at t))
 
 pub none-yet : (ds : List Departure) (now : ℕ) (v : View) → Shows ds now v → (p : Departure → Bool) (lowest : ℕ) → Best now (counting (keep p (drop (v .len) ds))) (2 ^ 64 - 1) lowest true
 none-yet ds now v s p lowest = rw (drop-of-length-le ds {i = v .len} (omega (arith, count ds now v s))) (refl, refl)
@@ -164,44 +164,44 @@ abbrev pub answered : ℕ → List Departure → ℕ → ℕ → ℕ → Bool
 answered now ds anchor local route = isRemote local route && answerable now (counting (keep (overAt anchor route) ds))
 
 pub said-answers : (now : ℕ) (ds : List Departure) (local : ℕ) (routes : List ℕ) (e : Entry) (r : Bool) (anchor : ℕ) → Asks routes anchor e →
-    r ≡ any (answered now ds anchor local) routes → r ≡ answersYet now ds local e
+    r ≡ any (answered now ds anchor local) routes → r ≡ isAnswerable now ds local e
 said-answers now ds local routes e r anchor asks h =
     h ∙ sym (any-kept (λ x. answerable now (counting (keep (overAt anchor x) ds))) (isRemote local) routes) ∙ rw (asks .anchor, asks .routes)
 
 -- a readable departure of the naming shard
 abbrev pub namedOpen : ℕ → ℕ → Departure → Bool
-namedOpen now naming d = eqb naming (d .shard) && readable now d
+namedOpen now departedBy d = eqb departedBy (d .shard) && readable now d
 
-pub said-named : (now : ℕ) (ds : List Departure) (e : Entry) (r : Bool) (naming : ℕ) → e .naming ≡ naming → ltb 0 (e .naming) ≡ true →
-    r ≡ any (namedOpen now naming) ds → r ≡ namedReadable now ds e
-said-named now ds e r naming n t h =
-    h ∙ ap (λ m. any (namedOpen now m) ds) (sym n) ∙ sym (any-kept (readable now) (λ d. eqb (e .naming) (d .shard)) ds)
-    ∙ ap (λ b. any (readable now) (keep (λ d. b && eqb (e .naming) (d .shard)) ds)) (sym t)
+pub said-named : (now : ℕ) (ds : List Departure) (e : Entry) (r : Bool) (departedBy : ℕ) → e .departedBy ≡ departedBy → ltb 0 (e .departedBy) ≡ true →
+    r ≡ any (namedOpen now departedBy) ds → r ≡ namedReadable now ds e
+said-named now ds e r departedBy n t h =
+    h ∙ ap (λ m. any (namedOpen now m) ds) (sym n) ∙ sym (any-kept (readable now) (λ d. eqb (e .departedBy) (d .shard)) ds)
+    ∙ ap (λ b. any (readable now) (keep (λ d. b && eqb (e .departedBy) (d .shard)) ds)) (sym t)
 
 -- at a place of the view, and past it
-module _ (ds : List Departure) (now : ℕ) (v : View) (s : Shows ds now v) (naming i : ℕ) where
-  pub open-one : (b : Bool) → i < v .len → eqb naming (getD (v .shards) i 0) && getD (v .readable) i b ≡ true → any (namedOpen now naming) (drop i ds) ≡ true
+module _ (ds : List Departure) (now : ℕ) (v : View) (s : Shows ds now v) (departedBy i : ℕ) where
+  pub open-one : (b : Bool) → i < v .len → eqb departedBy (getD (v .shards) i 0) && getD (v .readable) i b ≡ true → any (namedOpen now departedBy) (drop i ds) ≡ true
   open-one b h t =
       let see = sees ds now v s i nobody h in
-      any-from (namedOpen now naming) ds i nobody (omega (arith, count ds now v s))
-      ∙ or-left (namedOpen now naming (getD ds i nobody)) (any (namedOpen now naming) (drop (i + 1) ds)) (rw (see .shard, see .readable b) at t)
+      any-from (namedOpen now departedBy) ds i nobody (omega (arith, count ds now v s))
+      ∙ or-left (namedOpen now departedBy (getD ds i nobody)) (any (namedOpen now departedBy) (drop (i + 1) ds)) (rw (see .shard, see .readable b) at t)
 
-  pub open-none : (b : Bool) → i < v .len → eqb naming (getD (v .shards) i 0) && getD (v .readable) i b ≡ false →
-      any (namedOpen now naming) (drop (i + 1) ds) ≡ any (namedOpen now naming) (drop i ds)
+  pub open-none : (b : Bool) → i < v .len → eqb departedBy (getD (v .shards) i 0) && getD (v .readable) i b ≡ false →
+      any (namedOpen now departedBy) (drop (i + 1) ds) ≡ any (namedOpen now departedBy) (drop i ds)
   open-none b h t =
       let see = sees ds now v s i nobody h in
-      let gone : namedOpen now naming (getD ds i nobody) ≡ false = rw (see .shard, see .readable b) at t in
-      sym (any-from (namedOpen now naming) ds i nobody (omega (arith, count ds now v s)) ∙ ap (λ c. c || any (namedOpen now naming) (drop (i + 1) ds)) gone)
+      let gone : namedOpen now departedBy (getD ds i nobody) ≡ false = rw (see .shard, see .readable b) at t in
+      sym (any-from (namedOpen now departedBy) ds i nobody (omega (arith, count ds now v s)) ∙ ap (λ c. c || any (namedOpen now departedBy) (drop (i + 1) ds)) gone)
 
-  pub open-past : v .len ≤ i → any (namedOpen now naming) (drop i ds) ≡ false
-  open-past h = any-past (namedOpen now naming) ds i (omega (arith, count ds now v s))
+  pub open-past : v .len ≤ i → any (namedOpen now departedBy) (drop i ds) ≡ false
+  open-past h = any-past (namedOpen now departedBy) ds i (omega (arith, count ds now v s))
 
 -- what an entry holds: a departure of its naming shard, or one over a remote route
-pub named-holds : (local : ℕ) (d : Departure) (e : Entry) → isShard (d .shard) ≡ true → e .naming ≡ d .shard → true ≡ holds local d e
+pub named-holds : (local : ℕ) (d : Departure) (e : Entry) → isShard (d .shard) ≡ true → e .departedBy ≡ d .shard → true ≡ holds local d e
 named-holds local d e good h =
     let some = leb-true 1 (d .shard) (and-left (leb 1 (d .shard)) (ltb (d .shard) (2 ^ 33)) good) in
-    sym (or-left (isOfNaming e d) (coversSome local d e) (and-both (isNamed e) (eqb (e .naming) (d .shard)) (lt-ltb 0 (e .naming) (omega arith)) (eq-eqb (e .naming) (d .shard) h)))
+    sym (or-left (isOfDepartedBy e d) (coversSome local d e) (and-both (isNamed e) (eqb (e .departedBy) (d .shard)) (lt-ltb 0 (e .departedBy) (omega arith)) (eq-eqb (e .departedBy) (d .shard) h)))
 
-pub other-holds : (local : ℕ) (d : Departure) (e : Entry) (r : Bool) → (e .naming ≡ d .shard → ⊥) → r ≡ coversSome local d e → r ≡ holds local d e
+pub other-holds : (local : ℕ) (d : Departure) (e : Entry) (r : Bool) → (e .departedBy ≡ d .shard → ⊥) → r ≡ coversSome local d e → r ≡ holds local d e
 other-holds local d e r h t =
-    t ∙ ap (λ b. b || coversSome local d e) (sym (ap (λ b. isNamed e && b) (ne-eqb (e .naming) (d .shard) h) ∙ and-false (isNamed e)))
+    t ∙ ap (λ b. b || coversSome local d e) (sym (ap (λ b. isNamed e && b) (ne-eqb (e .departedBy) (d .shard) h) ∙ and-false (isNamed e)))

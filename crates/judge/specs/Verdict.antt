@@ -9,13 +9,13 @@ use Rattle.rules.specs.Prune.{answering, expiring, ruleOf, stands, standsBy, is
 use Rattle.judge.specs.View.{Shows}
 use Rattle.judge.specs.declared.views.View.{View}
 use Rattle.judge.specs.declared.verdicts.Verdict.{Verdict}
-use Rattle.judge.specs.declared.verdicts.Verdict.the-variants.{Stands, Falls, Told}
+use Rattle.judge.specs.declared.verdicts.Verdict.the-variants.{Stands, Falls, Reported}
 
--- Stands: it stands. Falls: it falls and nothing is reported. Told: it falls, and the report says covered.
+-- Stands: it stands. Falls: it falls and nothing is reported. Reported: it falls, and the report says covered.
 abbrev pub Says : Verdict → Plain → ℕ → Entry → Type 0
 Says Stands p now e = stands p now e ≡ true
 Says Falls p now e = (stands p now e ≡ false) × (isReported (ruleOf (p .local) e) ≡ false)
-Says (Told covered) p now e =
+Says (Reported covered) p now e =
     (stands p now e ≡ false) × (isReported (ruleOf (p .local) e) ≡ true) × (coveredBy (ruleOf (p .local) e) ≡ covered)
 
 -- the plain ledger has this local and these spans, and the view shows its departures
@@ -26,17 +26,17 @@ pub record Faces (p : Plain) (now home v l : ℕ) (w : View) : Type 0 where
   pub view : Shows (p .departures) now w
 
 -- a fall that is reported, and one that is not
-abbrev pub unlessTold : ℕ → Bool → Verdict
-unlessTold covered true = Stands
-unlessTold covered false = Told covered
+abbrev pub reportedUnless : ℕ → Bool → Verdict
+reportedUnless covered true = Stands
+reportedUnless covered false = Reported covered
 
-abbrev pub unlessQuiet : Bool → Verdict
-unlessQuiet true = Stands
-unlessQuiet false = Falls
+abbrev pub quietUnless : Bool → Verdict
+quietUnless true = Stands
+quietUnless false = Falls
 
 -- the verdict by rule 4 if it fits, else by rule 5
 abbrev pub byRoutes : Plain → ℕ → Entry → Verdict
 byRoutes p now e =
     cond (ltb 0 (e .certificate) && filled (remote (p .local) (e .terms)))
-    (unlessTold 0 (standsBy answering p now e))
-    (unlessQuiet (standsBy expiring p now e))
+    (reportedUnless 0 (standsBy answering p now e))
+    (quietUnless (standsBy expiring p now e))

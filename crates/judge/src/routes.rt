@@ -13,13 +13,13 @@ ghost use Rattle.rules.specs.Numbers.{isShard, owns};
 ghost use Rattle.rules.specs.Prune.{holds};
 ghost use Rattle.entry.specs.Entry.{plainEntry, Fits};
 ghost use Rattle.judge.specs.View.{view, Sized, Shows, zerosOf};
-ghost use Rattle.judge.specs.Answers.{Asks, answersYet, coversSome};
+ghost use Rattle.judge.specs.Answers.{Asks, isAnswerable, coversSome};
 
 // More than any cut and any shard.
 const TOP: u64 = 0xFFFF_FFFF_FFFF_FFFF;
 
 // A route with a one bit put in front, which one shift compares with a shard.
-fn led_by_one(route: u64) -> u64
+fn with_leading_one(route: u64) -> u64
     ensures { λ r. ⌜ r ≡ route / 2 + 2 ^ 63 ⌝ }
 {
     (route >> 1) + 0x8000_0000_0000_0000
@@ -58,7 +58,7 @@ fn counts_over(
 
 // Rule 4's question: over some remote route there is no departure, or the one that counts is readable. The departures are gone
 // through downwards, with the best so far beside.
-pub fn answers_yet<'a>(
+pub fn is_answerable<'a>(
     routes: [u64; 8],
     n: usize,
     anchor: Time,
@@ -72,7 +72,7 @@ pub fn answers_yet<'a>(
     requires { ⌜ n ≤ 8 ⌝ }
     requires { ⌜ isShard (local .0) ≡ true ⌝ }
     requires { ⌜ Sized (view (now shards) (now zeros) (now cuts) (now readable) len) ⌝ }
-    ensures { λ r. ⌜ ((ds : List plain.Departure) (at : ℕ) (e : plain.Entry) → Shows ds at (view (now (shards .entry)) (now (zeros .entry)) (now (cuts .entry)) (now (readable .entry)) len) → Asks (take n routes) (anchor .0) e → r ≡ answersYet at ds (local .0) e) ⌝ }
+    ensures { λ r. ⌜ ((ds : List plain.Departure) (at : ℕ) (e : plain.Entry) → Shows ds at (view (now (shards .entry)) (now (zeros .entry)) (now (cuts .entry)) (now (readable .entry)) len) → Asks (take n routes) (anchor .0) e → r ≡ isAnswerable at ds (local .0) e) ⌝ }
 {
     let mut stands = false;
     let mut i: usize = 0;
@@ -82,7 +82,7 @@ pub fn answers_yet<'a>(
             i += 1;
             continue 'routes;
         }
-        let led = led_by_one(route);
+        let led = with_leading_one(route);
         let mut best = Time(TOP);
         let mut lowest = Shard(TOP);
         let mut answers = true;
@@ -120,7 +120,7 @@ fn is_over_remote(
     requires { ⌜ isShard (local .0) ≡ true ⌝ }
     ensures { λ r. ⌜ r ≡ (not (owns (local .0) route) && (eqb ((route / 2 + 2 ^ 63) / 2 ^ zeros) (shard .0) && ltb (anchor .0) (cut .0))) ⌝ }
 {
-    !local.owns(route) && is_over(led_by_one(route), shard, zeros, cut, anchor)
+    !local.owns(route) && is_over(with_leading_one(route), shard, zeros, cut, anchor)
 }
 
 // Whether a departure is over some remote route.
@@ -155,7 +155,7 @@ pub fn needs(e: Entry, local: Shard, shard: Shard, zeros: u32, cut: Time) -> boo
     requires { ⌜ zeros < 64 ⌝ }
     ensures { λ r. ⌜ ((d : plain.Departure) → isShard (d .shard) ≡ true → shard .0 ≡ d .shard → zeros ≡ zerosOf d → cut .0 ≡ d .cut → r ≡ holds (local .0) d (plainEntry e)) ⌝ }
 {
-    if e.naming.0 == shard.0 {
+    if e.departed_by.0 == shard.0 {
         return true;
     }
     let routes = e.routes;

@@ -14,18 +14,18 @@ ghost use Rattle.rules.specs.Plain.{isCore, isSettling};
 ghost use Rattle.rules.specs.Numbers.{isShard, isTime, isSpan};
 ghost use Rattle.entry.specs.Entry.{plainEntry, plainPart, Fits};
 ghost use Rattle.judge.specs.View.{view, Sized};
-ghost use Rattle.judge.specs.Verdict.{Says, Faces, unlessTold, unlessQuiet, byRoutes};
+ghost use Rattle.judge.specs.Verdict.{Says, Faces, reportedUnless, quietUnless, byRoutes};
 
-// Told holds what the report says of covered, 0 or 1; an entry that only falls is not reported.
+// Reported holds what the report says of covered, 0 or 1; an entry that only falls is not reported.
 pub enum Verdict {
     Stands,
     Falls,
-    Told(u64),
+    Reported(u64),
 }
 
 // By a rule whose falls are not reported.
-fn quiet(stands: bool) -> Verdict
-    ensures { λ r. ⌜ r ≡ unlessQuiet stands ⌝ }
+fn quiet_unless(stands: bool) -> Verdict
+    ensures { λ r. ⌜ r ≡ quietUnless stands ⌝ }
 {
     if stands {
         Verdict::Stands
@@ -35,13 +35,13 @@ fn quiet(stands: bool) -> Verdict
 }
 
 // By a rule whose falls are reported.
-fn told(stands: bool, covered: u64) -> Verdict
-    ensures { λ r. ⌜ r ≡ unlessTold covered stands ⌝ }
+fn reported_unless(stands: bool, covered: u64) -> Verdict
+    ensures { λ r. ⌜ r ≡ reportedUnless covered stands ⌝ }
 {
     if stands {
         Verdict::Stands
     } else {
-        Verdict::Told(covered)
+        Verdict::Reported(covered)
     }
 }
 
@@ -93,7 +93,7 @@ fn by_routes<'a>(
             let routes = e.routes;
             let n = e.routes_len as usize;
             let anchor = e.anchor;
-            let yet = routes::answers_yet(
+            let yet = routes::is_answerable(
                 routes,
                 n,
                 anchor,
@@ -104,10 +104,10 @@ fn by_routes<'a>(
                 readable,
                 len,
             );
-            return told(yet, 0);
+            return reported_unless(yet, 0);
         }
     }
-    quiet(time.0 < e.at.0 + validity)
+    quiet_unless(time.0 < e.at.0 + validity)
 }
 
 // The verdict on an entry at a clock, by the first rule that fits.
@@ -132,17 +132,17 @@ pub fn judge<'a>(
     ensures { λ r. ⌜ ((p : plain.Plain) → Faces p (time .0) (local .0) validity «leg_span» (view (now (shards .entry)) (now (zeros .entry)) (now (cuts .entry)) (now (readable .entry)) len) → Says r p (time .0) (plainEntry e)) ⌝ }
 {
     let part = e.part;
-    let naming = e.naming;
+    let departed_by = e.departed_by;
     let settles = is_settling(part, e.absences_len);
-    let named = 0 < naming.0;
+    let named = 0 < departed_by.0;
     if is_awaiting(part, e.certified) {
         return Verdict::Stands;
     }
     if settles {
-        return quiet(time.0 < e.at.0 + leg_span);
+        return quiet_unless(time.0 < e.at.0 + leg_span);
     }
     if named {
-        return told(views::named_readable(naming, shards, readable, len), 1);
+        return reported_unless(views::named_readable(departed_by, shards, readable, len), 1);
     }
     by_routes(e, local, validity, time, shards, zeros, cuts, readable, len)
 }

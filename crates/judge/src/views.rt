@@ -65,25 +65,25 @@ impl View {
 }
 
 // Whether a departure is of the naming shard and readable.
-fn is_named_open(naming: Shard, shard: Shard, readable: bool) -> bool
-    ensures { λ r. ⌜ r ≡ (eqb (naming .0) (shard .0) && readable) ⌝ }
+fn is_named_open(departed_by: Shard, shard: Shard, readable: bool) -> bool
+    ensures { λ r. ⌜ r ≡ (eqb («departed_by» .0) (shard .0) && readable) ⌝ }
 {
-    naming.0 == shard.0 && readable
+    departed_by.0 == shard.0 && readable
 }
 
 // Whether the shard that names an entry has a readable departure.
 pub fn named_readable<'a>(
-    naming: Shard,
+    departed_by: Shard,
     shards: &'a [u64; 32],
     readable: &'a [bool; 32],
     n: usize,
 ) -> bool
     requires { ⌜ (n ≤ 32) × (length (now shards) ≡ 32) × (length (now readable) ≡ 32) ⌝ }
-    ensures { λ r. ⌜ ((ds : List plain.Departure) (at : ℕ) (zs cs : List ℕ) (e : plain.Entry) → Shows ds at (view (now (shards .entry)) zs cs (now (readable .entry)) n) → e .naming ≡ naming .0 → ltb 0 (e .naming) ≡ true → r ≡ namedReadable at ds e) ⌝ }
+    ensures { λ r. ⌜ ((ds : List plain.Departure) (at : ℕ) (zs cs : List ℕ) (e : plain.Entry) → Shows ds at (view (now (shards .entry)) zs cs (now (readable .entry)) n) → e .departedBy ≡ «departed_by» .0 → ltb 0 (e .departedBy) ≡ true → r ≡ namedReadable at ds e) ⌝ }
 {
     let mut i: usize = 0;
     while i < n {
-        if is_named_open(naming, Shard(shards[i]), readable[i]) {
+        if is_named_open(departed_by, Shard(shards[i]), readable[i]) {
             return true;
         }
         i += 1;

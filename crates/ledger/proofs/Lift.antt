@@ -27,7 +27,7 @@ use Rattle.entry.specs.Entry.{plainEntry, Fits}
 use Rattle.store.specs.declared.roster.Roster.{Roster}
 use Rattle.store.specs.declared.issuers.Issuers.{Issuers}
 use Rattle.store.specs.Roster as roster
-use Rattle.store.specs.Roster.{keysOf, slotsOf, freeSlot, is, below, Opened, Closed}
+use Rattle.store.specs.Roster.{keysOf, slotsOf, freeSlot, is, below, Inserted, Removed}
 use Rattle.store.specs.Issuers as issuers
 use Rattle.store.specs.Issuers.{isNot, pairsIn}
 use Rattle.store.specs.declared.departures.Departures.{Departures}
@@ -154,7 +154,7 @@ changed l h t k x d f e fx m terms g =
 
 -- An entry taken in: its transaction is not owed, and ranks at k.
 pub taken-in : (l : Ledger) → Held l → (k : ℕ) (x : Entry) (r : Roster) (ix : Issuers) → place (is (x .tx .0)) 0 (keysOf (l .roster)) ≡ Nothing →
-    k ≡ rank (below (x .tx .0)) (keysOf (l .roster)) → l .roster .len < 48 → Fits x → IsOfWord (plainEntry x) → Opened (l .roster) k (x .tx .0) r →
+    k ≡ rank (below (x .tx .0)) (keysOf (l .roster)) → l .roster .len < 48 → Fits x → IsOfWord (plainEntry x) → Inserted (l .roster) k (x .tx .0) r →
     issuers.Holds (includeAll pairKey (pairsOf (l .local .0) (plainEntry x)) (index (contents l))) ix →
     Good (withEntries (include transactionOf (plainEntry x) (contents l .entries)) (contents l)) →
     Became (withEntries (include transactionOf (plainEntry x) (contents l .entries)) (contents l)) (withParts l r (set (l .entries) (freeSlot (l .roster)) x) ix)
@@ -199,7 +199,7 @@ taken-in l h k x r ix e q room fx word o i g =
 
 -- An entry let go.
 pub let-go : (l : Ledger) → Held l → (t k : ℕ) (r : Roster) (ix : Issuers) → place (is t) 0 (keysOf (l .roster)) ≡ At k →
-    Closed (l .roster) k r → issuers.Holds (keep (isNot t) (index (contents l))) ix →
+    Removed (l .roster) k r → issuers.Holds (keep (isNot t) (index (contents l))) ix →
     Good (withEntries (without transactionOf t (contents l .entries)) (contents l)) →
     Became (withEntries (without transactionOf t (contents l .entries)) (contents l)) (withParts l r (l .entries) ix)
 unfolding contents index

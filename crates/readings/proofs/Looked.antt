@@ -19,34 +19,34 @@ use Rattle.entry.specs.Entry.{plainEntry}
 use Rattle.ledger.specs.declared.Ledger.{Ledger}
 use Rattle.ledger.specs.Contents.{contents}
 use Rattle.ledger.proofs.Lift.{AtSlot}
-use Rattle.readings.specs.declared.Told.{Told}
+use Rattle.readings.specs.declared.Answer.{Answer}
 use Rattle.readings.specs.Reads.{Reads}
 use Rattle.readings.specs.Answers.{Tells, Says, Refuses}
 
 -- a number read as held; a test of anything
-pub tells : (n m : ℕ) (p : Plain) (r : Told) → Tells n r → n ≡ m → Reads (done (m ∷ []) p) [] [] r
+pub tells : (n m : ℕ) (p : Plain) (r : Answer) → Tells n r → n ≡ m → Reads (done (m ∷ []) p) [] [] r
 tells n m p r w e = record { refused = w .refused; answer = w .answer ∙ e; wrote = refl }
 
-pub says : (a b : Bool) (p : Plain) (r : Told) → Says a r → a ≡ b → Reads (done (yesNo b ∷ []) p) [] [] r
+pub says : (a b : Bool) (p : Plain) (r : Answer) → Says a r → a ≡ b → Reads (done (yesNo b ∷ []) p) [] [] r
 says a b p r w e = record { refused = w .refused; answer = w .answer ∙ ap yesNo e; wrote = refl }
 
 -- a test of an entry that was found
-pub answered : (q : plain.Entry → Bool) (l : Ledger) (t k : ℕ) (d : Entry) (b : Bool) (r : Told) → AtSlot l t k → Says b r →
+pub answered : (q : plain.Entry → Bool) (l : Ledger) (t k : ℕ) (d : Entry) (b : Bool) (r : Answer) → AtSlot l t k → Says b r →
     b ≡ q (plainEntry (getD (l .entries) (getD (l .roster .slots) k 0) d)) → Reads (lookup q t (contents l)) [] [] r
 answered q l t k d b r a w e = says b (ofEntry q (plain.entryOf t (contents l))) (contents l) r w (e ∙ ap (ofEntry q) (sym (a .got d)))
 
 -- no for a transaction that is not owed
-pub unanswered : (q : plain.Entry → Bool) (l : Ledger) (t : ℕ) (r : Told) → Missing transactionOf t (contents l .entries) → Says false r →
+pub unanswered : (q : plain.Entry → Bool) (l : Ledger) (t : ℕ) (r : Answer) → Missing transactionOf t (contents l .entries) → Says false r →
     Reads (lookup q t (contents l)) [] [] r
 unanswered q l t r a w = says false (ofEntry q (plain.entryOf t (contents l))) (contents l) r w (ap (ofEntry q) (sym (a .got)))
 
 -- the table gives a number: it is said, and nothing is written
-pub refuses : (n m : ℕ) (p : Plain) (o : Outcome) (lent : List ℕ) (r : Told) → 0 < n → Refuses n r → m ≡ n → Reads (unless m p o) lent lent r
+pub refuses : (n m : ℕ) (p : Plain) (o : Outcome) (lent : List ℕ) (r : Answer) → 0 < n → Refuses n r → m ≡ n → Reads (unless m p o) lent lent r
 refuses zero m p o lent r h w e = absurd (omega arith)
 refuses (suc n) m p o lent r h w e = rw e (record { refused = w .refused; answer = w .answer; wrote = refl })
 
 -- the table gives none
-pub passes : (m : ℕ) (p : Plain) (o : Outcome) (lent after : List ℕ) (r : Told) → m ≡ 0 → Reads o lent after r → Reads (unless m p o) lent after r
+pub passes : (m : ℕ) (p : Plain) (o : Outcome) (lent after : List ℕ) (r : Answer) → m ≡ 0 → Reads o lent after r → Reads (unless m p o) lent after r
 passes m p o lent after r e g = rw e g
 
 -- A joined test, from where it is decided.

@@ -10,10 +10,10 @@ ghost use Rattle.rules.specs.Readings.{read, openAt, answers, abandonment, cove
 ghost use Rattle.entry.specs.Entry.{plainPart};
 ghost use Rattle.ledger.specs.Contents.{contents, Held};
 ghost use Rattle.readings.specs.Reads.{Reads};
-use crate::Told;
-use crate::telling::refusal;
-use crate::telling::said;
-use crate::telling::told;
+use crate::Answer;
+use crate::reply::refusal;
+use crate::reply::yes_no;
+use crate::reply::answer;
 use entry::Entry;
 use entry::Part;
 use ledger::Ledger;
@@ -24,8 +24,8 @@ use types::Time;
 use types::Transaction;
 
 // A core without a certificate by execution, which no record names.
-fn is_abandonable(part: Part, certified: u8, naming: Shard) -> bool
-    ensures { λ r. ⌜ r ≡ isCore (plainPart part) && ltb certified 2 && not (ltb 0 (naming .0)) ⌝ }
+fn is_abandonable(part: Part, certified: u8, departed_by: Shard) -> bool
+    ensures { λ r. ⌜ r ≡ isCore (plainPart part) && ltb certified 2 && not (ltb 0 («departed_by» .0)) ⌝ }
 {
     if !part.is_core() {
         return false;
@@ -33,99 +33,99 @@ fn is_abandonable(part: Part, certified: u8, naming: Shard) -> bool
     if certified >= 2 {
         return false;
     }
-    naming.0 == 0
+    departed_by.0 == 0
 }
 
 // Whether the entry may be abandoned.
-pub fn abandonment_answers(ledger: Ledger, tx: Transaction) -> Told
+pub fn abandonment_answers(ledger: Ledger, tx: Transaction) -> Answer
     requires { ⌜ Held ledger ⌝ }
     ensures { λ r. ⌜ Reads (read (abandonment (tx .0)) (contents ledger)) [] [] r ⌝ }
 {
     let roster = ledger.roster;
     let Found::At(k) = roster.find(tx) else {
-        return said(false);
+        return yes_no(false);
     };
     let slot = roster.slots[k];
     let e = ledger.entries[slot];
     let part = e.part;
-    said(is_abandonable(part, e.certified, e.naming))
+    yes_no(is_abandonable(part, e.certified, e.departed_by))
 }
 
 // Whether a record names the entry or it has an absence.
-pub fn is_covered(ledger: Ledger, tx: Transaction) -> Told
+pub fn is_covered(ledger: Ledger, tx: Transaction) -> Answer
     requires { ⌜ Held ledger ⌝ }
     ensures { λ r. ⌜ Reads (read (covered (tx .0)) (contents ledger)) [] [] r ⌝ }
 {
     let roster = ledger.roster;
     let Found::At(k) = roster.find(tx) else {
-        return said(false);
+        return yes_no(false);
     };
     let slot = roster.slots[k];
     let e = ledger.entries[slot];
-    said(e.covered())
+    yes_no(e.covered())
 }
 
 // Whether a record names the entry.
-pub fn departed(ledger: Ledger, tx: Transaction) -> Told
+pub fn departed(ledger: Ledger, tx: Transaction) -> Answer
     requires { ⌜ Held ledger ⌝ }
     ensures { λ r. ⌜ Reads (read (departed (tx .0)) (contents ledger)) [] [] r ⌝ }
 {
     let roster = ledger.roster;
     let Found::At(k) = roster.find(tx) else {
-        return said(false);
+        return yes_no(false);
     };
     let slot = roster.slots[k];
-    said(ledger.entries[slot].naming.0 > 0)
+    yes_no(ledger.entries[slot].departed_by.0 > 0)
 }
 
 // Whether the entry's certificate is by execution.
-pub fn executed(ledger: Ledger, tx: Transaction) -> Told
+pub fn executed(ledger: Ledger, tx: Transaction) -> Answer
     requires { ⌜ Held ledger ⌝ }
     ensures { λ r. ⌜ Reads (read (executed (tx .0)) (contents ledger)) [] [] r ⌝ }
 {
     let roster = ledger.roster;
     let Found::At(k) = roster.find(tx) else {
-        return said(false);
+        return yes_no(false);
     };
     let slot = roster.slots[k];
-    said(ledger.entries[slot].certified == 2)
+    yes_no(ledger.entries[slot].certified == 2)
 }
 
 // Whether local does not own some route of the entry.
-pub fn reaches_beyond(ledger: Ledger, tx: Transaction) -> Told
+pub fn reaches_beyond(ledger: Ledger, tx: Transaction) -> Answer
     requires { ⌜ Held ledger ⌝ }
     ensures { λ r. ⌜ Reads (read (reachesBeyond (tx .0)) (contents ledger)) [] [] r ⌝ }
 {
     let roster = ledger.roster;
     let Found::At(k) = roster.find(tx) else {
-        return said(false);
+        return yes_no(false);
     };
     let slot = roster.slots[k];
     let e = ledger.entries[slot];
-    said(e.reaches_beyond(ledger.local))
+    yes_no(e.reaches_beyond(ledger.local))
 }
 
 // Whether the index names the transaction under the record.
-pub fn issued_by(ledger: Ledger, r: RecordKey, tx: Transaction) -> Told
+pub fn issued_by(ledger: Ledger, r: RecordKey, tx: Transaction) -> Answer
     requires { ⌜ Held ledger ⌝ }
     ensures { λ x. ⌜ Reads (read (issuedBy (r .0) (tx .0)) (contents ledger)) [] [] x ⌝ }
 {
-    said(ledger.issuers.names(r, tx))
+    yes_no(ledger.issuers.names(r, tx))
 }
 
-pub fn local(ledger: Ledger) -> Told
+pub fn local(ledger: Ledger) -> Answer
     requires { ⌜ Held ledger ⌝ }
     ensures { λ r. ⌜ Reads (read local (contents ledger)) [] [] r ⌝ }
 {
-    told(ledger.local.0)
+    answer(ledger.local.0)
 }
 
 // The running count of rebuilt entries.
-pub fn rebuilt(ledger: Ledger) -> Told
+pub fn rebuilt(ledger: Ledger) -> Answer
     requires { ⌜ Held ledger ⌝ }
     ensures { λ r. ⌜ Reads (read rebuilt (contents ledger)) [] [] r ⌝ }
 {
-    told(ledger.rebuilt)
+    answer(ledger.rebuilt)
 }
 
 fn are_times(at: Time, end: Time, time: Time) -> bool
@@ -162,7 +162,7 @@ pub fn open_at(
     at: Time,
     end: Time,
     time: Time,
-) -> Told
+) -> Answer
     requires { ⌜ Held ledger ⌝ }
     ensures { λ r. ⌜ Reads (read (openAt (tx .0) (shard .0) key (at .0) (end .0) (time .0)) (contents ledger)) [] [] r ⌝ }
 {
@@ -170,7 +170,7 @@ pub fn open_at(
     if no > 0 {
         return refusal(no);
     }
-    said(at.passed(time))
+    yes_no(at.passed(time))
 }
 
 // Read absent, in the window [at, at + span).
@@ -197,7 +197,7 @@ pub fn answers(
     end: Time,
     read_at: Time,
     inclusion: u64,
-) -> Told
+) -> Answer
     requires { ⌜ Held ledger ⌝ }
     ensures { λ r. ⌜ Reads (read (answers (tx .0) (shard .0) key (at .0) (end .0) («read_at» .0) inclusion) (contents ledger)) [] [] r ⌝ }
 {
@@ -209,11 +209,11 @@ pub fn answers(
         return refusal(no);
     }
     if !is_absent(at, ledger.core_span, read_at, inclusion) {
-        return said(false);
+        return yes_no(false);
     }
     let roster = ledger.roster;
     let Found::Nothing = roster.find(tx) else {
-        return said(true);
+        return yes_no(true);
     };
-    said(false)
+    yes_no(false)
 }

@@ -10,7 +10,7 @@ use Rattle.ledger.specs.declared.Ledger.{Ledger}
 use Rattle.ledger.specs.declared.Done.{Done}
 use Rattle.ledger.specs.Contents.{contents}
 use Rattle.ledger.specs.Meets.{Meets}
-use Rattle.readings.specs.declared.Told.{Told}
+use Rattle.readings.specs.declared.Answer.{Answer}
 use Rattle.readings.specs.Reads.{Reads}
 use Rattle.dispatch.specs.Changing.{callOf, Turned}
 use Rattle.dispatch.specs.Reading.{readingOf}
@@ -37,18 +37,18 @@ readingIn line numbers = readingOf (line .code - 16) (take (line .count) numbers
 
 -- the three numbers that are written of a call: its refusal and its answers
 abbrev pub doneBy : List ℕ → Ledger → Done
-doneBy said l = record { refused = getD said 0 0; answer = getD said 1 0; fallen = getD said 2 0; ledger = l }
+doneBy reply l = record { refused = getD reply 0 0; answer = getD reply 1 0; fallen = getD reply 2 0; ledger = l }
 
-abbrev pub toldBy : List ℕ → Told
-toldBy said = record { refused = getD said 0 0; answer = getD said 1 0 }
+abbrev pub answerBy : List ℕ → Answer
+answerBy reply = record { refused = getD reply 0 0; answer = getD reply 1 0 }
 
 abbrev pub Renewed : List ℕ → List ℕ → Ledger → Type 0
-Renewed ws said r = Meets (making (word 0 ws) (word 1 ws) (word 2 ws) (word 3 ws)) [] [] (doneBy said r)
+Renewed ws reply r = Meets (making (word 0 ws) (word 1 ws) (word 2 ws) (word 3 ws)) [] [] (doneBy reply r)
 
-pub record Changed (line : Parsed) (numbers : List ℕ) (times : ℕ) (l : Ledger) (was is said : List ℕ) (r : Ledger) : Type 0 where
-  pub turned : Turned (turnsOf times) fillWord (callIn line numbers) l (filled (take (line .lent) was)) (take (line .lent) is) (doneBy said r)
+pub record Changed (line : Parsed) (numbers : List ℕ) (times : ℕ) (l : Ledger) (was is reply : List ℕ) (r : Ledger) : Type 0 where
+  pub turned : Turned (turnsOf times) fillWord (callIn line numbers) l (filled (take (line .lent) was)) (take (line .lent) is) (doneBy reply r)
   pub beyond : drop (line .lent) is ≡ drop (line .lent) was
 
-pub record Asked (line : Parsed) (numbers : List ℕ) (l : Ledger) (was is said : List ℕ) : Type 0 where
-  pub reads : Reads (read (readingIn line numbers) (contents l)) (filled (take (line .lent) was)) (take (line .lent) is) (toldBy said)
+pub record Asked (line : Parsed) (numbers : List ℕ) (l : Ledger) (was is reply : List ℕ) : Type 0 where
+  pub reads : Reads (read (readingIn line numbers) (contents l)) (filled (take (line .lent) was)) (take (line .lent) is) (answerBy reply)
   pub beyond : drop (line .lent) is ≡ drop (line .lent) was

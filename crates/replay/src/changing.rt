@@ -16,9 +16,9 @@ use script::calls::NEW;
 use types::Shard;
 
 // A making, as often as the line says.
-pub fn renew(numbers: &[u64; 2048], times: u64, said: &mut [u64; 3]) -> Ledger
-    requires { ⌜ length (now said) ≡ 3 ⌝ }
-    ensures { λ r. ⌜ Renewed (now (numbers .entry)) (now (said .exit)) r ⌝ }
+pub fn renew(numbers: &[u64; 2048], times: u64, reply: &mut [u64; 3]) -> Ledger
+    requires { ⌜ length (now reply) ≡ 3 ⌝ }
+    ensures { λ r. ⌜ Renewed (now (numbers .entry)) (now (reply .exit)) r ⌝ }
 {
     let local = Shard(numbers[0]);
     let validity = numbers[1];
@@ -30,9 +30,9 @@ pub fn renew(numbers: &[u64; 2048], times: u64, said: &mut [u64; 3]) -> Ledger
         left -= 1;
         done = making::new(local, validity, core_span, leg_span);
     }
-    said[0] = done.refused;
-    said[1] = done.answer;
-    said[2] = done.fallen;
+    reply[0] = done.refused;
+    reply[1] = done.answer;
+    reply[2] = done.fallen;
     done.ledger
 }
 
@@ -43,11 +43,11 @@ pub fn apply(
     numbers: &[u64; 2048],
     lent: &mut [u64],
     times: u64,
-    said: &mut [u64; 3],
+    reply: &mut [u64; 3],
 ) -> Ledger
     requires { ⌜ Held ledger × Sound line × (3 < line .code) ⌝ }
-    requires { ⌜ (4096 ≡ length (now lent)) × (length (now said) ≡ 3) ⌝ }
-    ensures { λ r. ⌜ Changed line (now (numbers .entry)) times ledger (now (lent .entry)) (now (lent .exit)) (now (said .exit)) r ⌝ }
+    requires { ⌜ (4096 ≡ length (now lent)) × (length (now reply) ≡ 3) ⌝ }
+    ensures { λ r. ⌜ Changed line (now (numbers .entry)) times ledger (now (lent .entry)) (now (lent .exit)) (now (reply .exit)) r ⌝ }
 {
     let kind = (line.code - NEW) as u64;
     let count = line.count;
@@ -57,8 +57,8 @@ pub fn apply(
     let list = &mut lent[..n];
     fill(list, FILL);
     let done = changing::apply(ledger, kind, words, list, turns_of(times), FILL);
-    said[0] = done.refused;
-    said[1] = done.answer;
-    said[2] = done.fallen;
+    reply[0] = done.refused;
+    reply[1] = done.answer;
+    reply[2] = done.fallen;
     done.ledger
 }

@@ -79,7 +79,7 @@ fn put_standing(buf: &mut [u8; 65536], out: Out, e: Entry, code: u64) -> Out
     let head = [
         code,
         e.certified as u64,
-        e.naming.0,
+        e.departed_by.0,
         e.returned as u64,
         e.absences_len as u64,
     ];

@@ -41,15 +41,15 @@ fn main() {
             replies::stop(&mut output, out, at);
             return;
         }
-        let mut said = [0u64; 3];
+        let mut reply = [0u64; 3];
         if code == NEW {
-            ledger = changing::renew(&numbers, times, &mut said);
+            ledger = changing::renew(&numbers, times, &mut reply);
         } else if code < QUESTIONS {
-            ledger = changing::apply(ledger, line, &numbers, &mut lent, times, &mut said);
+            ledger = changing::apply(ledger, line, &numbers, &mut lent, times, &mut reply);
         } else if code < DUMP {
-            reading::ask(ledger, line, &numbers, &mut lent, times, &mut said);
+            reading::ask(ledger, line, &numbers, &mut lent, times, &mut reply);
         }
-        out = replies::put_answers(&mut output, out, code, &said);
+        out = replies::put_answers(&mut output, out, code, &reply);
         if code == DUMP {
             out = dump::put_ledger(&mut output, out, ledger);
         }

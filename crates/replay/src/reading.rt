@@ -20,11 +20,11 @@ pub fn ask(
     numbers: &[u64; 2048],
     lent: &mut [u64],
     times: u64,
-    said: &mut [u64; 3],
+    reply: &mut [u64; 3],
 )
     requires { ⌜ Held ledger × Sound line × (16 < line .code) ⌝ }
-    requires { ⌜ (4096 ≡ length (now lent)) × (length (now said) ≡ 3) ⌝ }
-    ensures { λ r. ⌜ Asked line (now (numbers .entry)) ledger (now (lent .entry)) (now (lent .exit)) (now (said .exit)) ⌝ }
+    requires { ⌜ (4096 ≡ length (now lent)) × (length (now reply) ≡ 3) ⌝ }
+    ensures { λ r. ⌜ Asked line (now (numbers .entry)) ledger (now (lent .entry)) (now (lent .exit)) (now (reply .exit)) ⌝ }
 {
     let kind = (line.code - PRUNE) as u64;
     let count = line.count;
@@ -36,8 +36,8 @@ pub fn ask(
     while 0 < left {
         left -= 1;
         fill(list, FILL);
-        let told = reading::ask(ledger, kind, words, list);
-        said[0] = told.refused;
-        said[1] = told.answer;
+        let answer = reading::ask(ledger, kind, words, list);
+        reply[0] = answer.refused;
+        reply[1] = answer.answer;
     }
 }

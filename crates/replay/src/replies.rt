@@ -18,20 +18,20 @@ fn answers_of(code: u8) -> u8 {
 }
 
 // status { " " answer }; after a refusal no answer. What `dump` says follows by itself.
-pub fn put_answers(buf: &mut [u8; 65536], out: Out, code: u8, said: &[u64; 3]) -> Out
+pub fn put_answers(buf: &mut [u8; 65536], out: Out, code: u8, reply: &[u64; 3]) -> Out
     requires { ⌜ out .at ≤ 65536 ⌝ }
     ensures { λ r. ⌜ r .at ≤ 65536 ⌝ }
 {
-    let put = script::put_number(buf, out, said[0]);
-    if said[0] > 0 {
+    let put = script::put_number(buf, out, reply[0]);
+    if reply[0] > 0 {
         return put;
     }
     match answers_of(code) {
         0 => put,
-        1 => put_word(buf, put, said[1]),
+        1 => put_word(buf, put, reply[1]),
         _ => {
-            let more = put_word(buf, put, said[1]);
-            put_word(buf, more, said[2])
+            let more = put_word(buf, put, reply[1]);
+            put_word(buf, more, reply[2])
         }
     }
 }

@@ -17,11 +17,11 @@ use Rattle.lists.proofs.Change.{every-change, has-change, has-include, new-incl
 use Rattle.rules.specs.Numbers.{isWord, isTime, isShard, isSpan, maxEntries, maxAbsences, maxDepartures, maxCount}
 use Rattle.rules.specs.Plain.{Part, whole, leg, core, remainder, Terms, Absence, Entry, Departure, Plain, isCore, isSettling, transactionOf, absenceKey, shardOf, empty, withEntries, withDepartures, withRebuilt, owed, entryOf, issues, owes}
 use Rattle.rules.specs.Words.{decomposed, admissionTerms, admissionFormed, admissionTimed, admissionPlaced, recordShard, recordGroups, recordFormed, recordTimed, finalizationLines, deciding, Line}
-use Rattle.rules.specs.Entries.{admitted, rebuilt, withPart, withCertificate, withNaming, withMarks, isRead, readAbsent, certified, marked, isClosed, withGroup, withGroups, rebuiltBy, Ruling, skip, turn, release, ruling, ruled, withLines}
+use Rattle.rules.specs.Entries.{admitted, rebuilt, withPart, withCertificate, withDepartedBy, withMarks, isRead, readAbsent, certified, marked, isClosed, withGroup, withGroups, rebuiltBy, Ruling, skip, resolve, release, ruling, ruled, withLines}
 use Rattle.rules.specs.Prune.{survivors, pruned, stands, remains}
 use Rattle.rules.specs.Outcome.{Outcome, unless, _gives_then_}
 use Rattle.rules.specs.Calls.{Call, admission, absence, certify, abandonment, settled, returned, closes, fated, finalization, forget, terminal, stamp, prune, step, run, making, makingRefusal, unowed, noRoomFor, admissionRefusal, afterAdmission, isNew, isFull, absenceRefusal, afterAbsence, certifyRefusal, afterCertify, abandonmentRefusal, afterAbandonment, afterMark, closesRefusal, afterCloses, isFated, afterFated, finalizationRefusal, afterFinalization, afterForget, firstStamp, stamped, departed, terminalRefusal, afterTerminal, stampRefusal, afterStamp, pruneRefusal, afterPrune}
-use Rattle.rules.specs.Good.{Holds, GoodAbsence, Marked, GoodPart, isNaming, GoodEntry, GoodStamp, GoodDeparture, Good, OfWords}
+use Rattle.rules.specs.Good.{Holds, GoodAbsence, Marked, GoodPart, isDepartedBy, GoodEntry, GoodStamp, GoodDeparture, Good, OfWords}
 use Rattle.rules.proofs.Taken.{admitted-good, GoodGroup, groups-good, rebuilt-good}
 
 -- The refusal table.
@@ -49,19 +49,19 @@ module _ (local : ℕ) (e : Entry) (g : GoodEntry local e) where
       record {
         terms = g .terms;
         certificate = c;
-        naming = g .naming;
+        departedBy = g .departedBy;
         absenceCount = g .absenceCount;
         absences = g .absences;
         absenceOrder = g .absenceOrder;
         part = g .part;
       }
 
-  pub naming-good : (shard : ℕ) → isNaming shard ≡ true → GoodEntry local (withNaming shard e)
-  naming-good shard n =
+  pub departedBy-good : (shard : ℕ) → isDepartedBy shard ≡ true → GoodEntry local (withDepartedBy shard e)
+  departedBy-good shard n =
       record {
         terms = g .terms;
         certificate = g .certificate;
-        naming = n;
+        departedBy = n;
         absenceCount = g .absenceCount;
         absences = g .absences;
         absenceOrder = g .absenceOrder;
@@ -73,7 +73,7 @@ module _ (local : ℕ) (e : Entry) (g : GoodEntry local e) where
       record {
         terms = g .terms;
         certificate = g .certificate;
-        naming = g .naming;
+        departedBy = g .departedBy;
         absenceCount = n;
         absences = every-include absenceKey GoodAbsence a (e .absences) h (g .absences);
         absenceOrder = ascending-include absenceKey a (e .absences) (g .absenceOrder);
@@ -86,7 +86,7 @@ module _ (local : ℕ) (e : Entry) (g : GoodEntry local e) where
       record {
         terms = g .terms;
         certificate = g .certificate;
-        naming = g .naming;
+        departedBy = g .departedBy;
         absenceCount = g .absenceCount;
         absences = g .absences;
         absenceOrder = g .absenceOrder;
@@ -128,8 +128,8 @@ marked-good local r isReturn e g =
     (λ _. g)
 
 -- a core that owes turned to remainder
-turned-good : (local : ℕ) (e : Entry) → isCore (e .part) ≡ true → owes local (e .terms) ≡ true → GoodEntry local e → GoodEntry local (withPart remainder e)
-turned-good local e c o g = part-good local e g remainder [] false (in-core (e .part) c (g .part), o, record { rising = tt; among = tt; returned = λ q. q })
+resolved-good : (local : ℕ) (e : Entry) → isCore (e .part) ≡ true → owes local (e .terms) ≡ true → GoodEntry local e → GoodEntry local (withPart remainder e)
+resolved-good local e c o g = part-good local e g remainder [] false (in-core (e .part) c (g .part), o, record { rising = tt; among = tt; returned = λ q. q })
   where
     in-core : (q : Part) → isCore q ≡ true → GoodPart q local (e .terms) (e .marks) (e .returned) → has self local (e .terms .coreShards) ≡ true
     in-core whole h k = absurd (false≢true h)
@@ -227,12 +227,12 @@ changes p t f k c g =
 -- Abandonment record: the entries stay good, and there are as many more as were rebuilt, which are the distinct transactions
 -- not yet owed.
 
-groups-kept : (local shard : ℕ) → isShard shard ≡ true → isNaming shard ≡ true → (gs : List Terms) → Every GoodGroup gs → (es : List Entry) → GoodEntries local es → GoodEntries local (withGroups shard gs es)
+groups-kept : (local shard : ℕ) → isShard shard ≡ true → isDepartedBy shard ≡ true → (gs : List Terms) → Every GoodGroup gs → (es : List Entry) → GoodEntries local es → GoodEntries local (withGroups shard gs es)
 groups-kept local shard s n [] v es g = g
 groups-kept local shard s n (t ∷ gs) v es g =
     groups-kept local shard s n gs (v .1) (withGroup shard t es)
     (by-cond (GoodEntries local) (has transactionOf (t .transaction) es) _ _
-    (λ _. changed-good local (t .transaction) (withNaming shard) es (λ e. refl) (λ e _ h. naming-good local e h shard n) g)
+    (λ _. changed-good local (t .transaction) (withDepartedBy shard) es (λ e. refl) (λ e _ h. departedBy-good local e h shard n) g)
     (λ _. included-good local (rebuilt shard t) es (rebuilt-good local shard t s n (v .0)) g))
 
 pub groups-count : (shard : ℕ) (gs : List Terms) (es : List Entry) → length (withGroups shard gs es) ≡ length es + rebuiltBy shard gs es
@@ -240,8 +240,8 @@ groups-count shard [] es = omega arith
 groups-count shard (t ∷ gs) es = omega (arith, groups-count shard gs (withGroup shard t es), one (has transactionOf (t .transaction) es) refl)
   where
     one : (b : Bool) → has transactionOf (t .transaction) es ≡ b →
-        length (cond b (change transactionOf (t .transaction) (withNaming shard) es) (include transactionOf (rebuilt shard t) es)) ≡ length es + cond b 0 1
-    one true h = omega (arith, length-changeIf (at transactionOf (t .transaction)) (withNaming shard) es)
+        length (cond b (change transactionOf (t .transaction) (withDepartedBy shard) es) (include transactionOf (rebuilt shard t) es)) ≡ length es + cond b 0 1
+    one true h = omega (arith, length-changeIf (at transactionOf (t .transaction)) (withDepartedBy shard) es)
     one false h = omega (arith, length-include-new transactionOf (rebuilt shard t) es h)
 
 abbrev groupTransactions : List Terms → List ℕ
@@ -256,7 +256,7 @@ rebuilt-count shard (g ∷ gs) es = go (has transactionOf (g .transaction) es) r
         cond b 0 1 + rebuiltBy shard gs (withGroup shard g es) ≡ length (keep (λ u. not (has transactionOf u es)) (include self (g .transaction) (setOf (groupTransactions gs))))
     go true h ih =
         let same = keep-same (λ u. not (has transactionOf u (withGroup shard g es))) (λ u. not (has transactionOf u es)) (setOf (groupTransactions gs))
-        (λ u _. rw h (ap not (has-change transactionOf u (g .transaction) (withNaming shard) es (λ e. refl)))) in
+        (λ u _. rw h (ap not (has-change transactionOf u (g .transaction) (withDepartedBy shard) es (λ e. refl)))) in
         rw (new-include-known (λ u. has transactionOf u es) (g .transaction) (setOf (groupTransactions gs)) h) (omega (arith, ih, ap length same))
     go false h ih =
         let same = keep-same (λ u. not (has transactionOf u (withGroup shard g es))) (λ u. not (eqb (g .transaction) u || has transactionOf u es)) (setOf (groupTransactions gs))
@@ -269,23 +269,23 @@ ruling-kept : (local : ℕ) (ds : List ℕ) (l : Line) (es : List Entry) → Goo
     GoodEntries local (ruled (ruling local ds l (get transactionOf (l .transaction) es)) (l .transaction) es)
 ruling-kept local ds l es g = found (get transactionOf (l .transaction) es) refl
   where
-    turned : (e : Entry) → get transactionOf (l .transaction) es ≡ some e → isCore (e .part) && owes local (e .terms) ≡ true → GoodEntries local (ruled turn (l .transaction) es)
-    turned e q h =
+    resolved : (e : Entry) → get transactionOf (l .transaction) es ≡ some e → isCore (e .part) && owes local (e .terms) ≡ true → GoodEntries local (ruled resolve (l .transaction) es)
+    resolved e q h =
         changed-good local (l .transaction) (withPart remainder) es (λ x. refl)
-        (λ x q′ k. let same : x ≡ e = cc in turned-good local x (rw same (and-left (isCore (e .part)) _ h)) (rw same (and-right (isCore (e .part)) _ h)) k) g
+        (λ x q′ k. let same : x ≡ e = cc in resolved-good local x (rw same (and-left (isCore (e .part)) _ h)) (rw same (and-right (isCore (e .part)) _ h)) k) g
 
     found : (o : Option Entry) → get transactionOf (l .transaction) es ≡ o → GoodEntries local (ruled (ruling local ds l o) (l .transaction) es)
     found none q = g
     found (some e) q =
         by-cond (λ r. GoodEntries local (ruled r (l .transaction) es)) (isSettling (e .part) && not (has self (l .transaction) ds)) skip _
         (λ _. g)
-        (λ _. by-cond (λ r. GoodEntries local (ruled r (l .transaction) es)) (eqb (l .decision) 1 && (isCore (e .part) && owes local (e .terms))) turn release
-        (λ h. turned e q (and-right (eqb (l .decision) 1) _ h))
+        (λ _. by-cond (λ r. GoodEntries local (ruled r (l .transaction) es)) (eqb (l .decision) 1 && (isCore (e .part) && owes local (e .terms))) resolve release
+        (λ h. resolved e q (and-right (eqb (l .decision) 1) _ h))
         (λ _. kept-good local (λ x. not (eqb (transactionOf x) (l .transaction))) es g))
 
 ruling-few : (r : Ruling) (t : ℕ) (es : List Entry) → length (ruled r t es) ≤ length es
 ruling-few skip t es = omega arith
-ruling-few turn t es = omega (arith, length-changeIf (at transactionOf t) (withPart remainder) es)
+ruling-few resolve t es = omega (arith, length-changeIf (at transactionOf t) (withPart remainder) es)
 ruling-few release t es = length-keep (λ x. not (eqb (transactionOf x) t)) es
 
 lines-kept : (local : ℕ) (ds : List ℕ) (ls : List Line) (es : List Entry) → GoodEntries local es → GoodEntries local (withLines local ds ls es)
@@ -350,9 +350,9 @@ certify-kept t code p g =
     let c : code ≤ 2 = ltb-false 2 code (passed (ltb 2 code) 4 0 e .0) in
     changes p t (certified code) (λ x. refl) (λ x _ h. certified-good (p .local) x h code c) g
 
-pub naming-shard : (n : ℕ) → isShard n ≡ true → isNaming n ≡ true
-naming-shard zero h = refl
-naming-shard (suc n) h = h
+pub departedBy-shard : (n : ℕ) → isShard n ≡ true → isDepartedBy n ≡ true
+departedBy-shard zero h = refl
+departedBy-shard (suc n) h = h
 
 abandonment-kept : (ws : List ℕ) (p : Plain) → Every (Holds isWord) ws → Good p → Good (afterAbandonment ws p .ledger)
 unfolding afterAbandonment
@@ -366,7 +366,7 @@ abandonment-kept ws p v g =
     with-rebuilt (withEntries (withGroups (recordShard ws) gs (p .entries)) p) _
     (with-entries p (withGroups (recordShard ws) gs (p .entries)) g
     (omega (arith, room, g .entryCount, groups-count (recordShard ws) gs (p .entries), rebuilt-count (recordShard ws) gs (p .entries)))
-    (groups-kept (p .local) (recordShard ws) (s .0) (naming-shard (recordShard ws) (s .0)) gs (groups-good ws v (f .0) (t .0)) (p .entries) (entries-of p g)))
+    (groups-kept (p .local) (recordShard ws) (s .0) (departedBy-shard (recordShard ws) (s .0)) gs (groups-good ws v (f .0) (t .0)) (p .entries) (entries-of p g)))
     (omega arith)
 
 mark-kept : (r t : ℕ) (isReturn : Bool) (p : Plain) → Good p → Good (afterMark r t isReturn p .ledger)

@@ -14,7 +14,7 @@ use Rattle.lists.proofs.Tests.{or-left, or-right}
 use Rattle.lists.proofs.Keep.{keep-keep, keep-same, any-same, any-has, any-more, any-keep, keep-count}
 use Rattle.lists.proofs.Order.{above-keep, ascending-keep, above-map, ascending-map}
 use Rattle.rules.specs.Plain.{Entry, Departure, Plain, transactionOf, remote}
-use Rattle.rules.specs.Prune.{readableUntil, readable, over, isOfNaming, counting, departureOver, answerable, legHorizon, validityHorizon, Rule, awaiting, settling, recorded, answering, expiring, ruleOf, standsBy, stands, isReported, Report, reportOf, survivors, fallen, reports, holds, remains, pruned, allReports, insert, insertAll, inOrder, Steady, lastOf, AsOnce}
+use Rattle.rules.specs.Prune.{readableUntil, readable, over, isOfDepartedBy, counting, departureOver, answerable, legHorizon, validityHorizon, Rule, awaiting, settling, recorded, answering, expiring, ruleOf, standsBy, stands, isReported, Report, reportOf, survivors, fallen, reports, holds, remains, pruned, allReports, insert, insertAll, inOrder, Steady, lastOf, AsOnce}
 
 -- Every rule that lets an entry stand lets it stand at each earlier clock.
 module _ {t u : ℕ} (h : t ≤ u) where
@@ -38,7 +38,7 @@ module _ {t u : ℕ} (h : t ≤ u) where
       by : (r : Rule) → standsBy r p u e ≡ true → standsBy r p t e ≡ true
       by awaiting s = refl
       by settling s = within-before (legHorizon p e) s
-      by recorded s = any-more (readable u) (readable t) readable-before (keep (isOfNaming e) (p .departures)) s
+      by recorded s = any-more (readable u) (readable t) readable-before (keep (isOfDepartedBy e) (p .departures)) s
       by answering s =
           any-more _ (λ r. answerable t (departureOver (p .departures) e r))
           (λ r. answerable-before (departureOver (p .departures) e r)) (remote (p .local) (e .terms)) s
@@ -54,12 +54,12 @@ stands-after p t u e m = by (ruleOf (p .local) e)
     by settling = refl
     by recorded =
         ap (any (readable u))
-        (keep-keep _ (isOfNaming e) (λ d s. any-has (holds (p .local) d) m (or-left _ _ s)) (p .departures))
+        (keep-keep _ (isOfDepartedBy e) (λ d s. any-has (holds (p .local) d) m (or-left _ _ s)) (p .departures))
     by answering =
         any-same _ _ (remote (p .local) (e .terms))
         (λ r n. ap (λ l. answerable u (counting l))
         (keep-keep _ (over e r)
-        (λ d s. any-has (holds (p .local) d) m (or-right (isOfNaming e d) _ (any-has (λ r. over e r d) n s))) (p .departures)))
+        (λ d s. any-has (holds (p .local) d) m (or-right (isOfDepartedBy e d) _ (any-has (λ r. over e r d) n s))) (p .departures)))
     by expiring = refl
 
 module _ {t u : ℕ} (h : t ≤ u) (p : Plain) where

@@ -18,10 +18,10 @@ use Rattle.lists.proofs.Change.{change-above, change-front}
 use Rattle.rules.specs.Numbers.{isWord, isTime, isShard, isSpan, maxEntries, maxDepartures, maxAbsences, maxCount}
 use Rattle.rules.specs.Plain.{Part, whole, leg, core, remainder, Edge, Terms, Absence, Entry, Departure, Plain, transactionOf, absenceKey, shardOf, empty, withEntries, withDepartures, withRebuilt, issues, owes, isSettling}
 use Rattle.rules.specs.Calls.{Call, admission, absence, certify, abandonment, settled, returned, finalization, forget, terminal, step, run, making, stamped, terminalRefusal, afterTerminal, certifyRefusal, afterCertify, absenceRefusal, afterAbsence, abandonmentRefusal, afterAbandonment, afterMark, afterFinalization, admissionRefusal, afterAdmission, afterForget}
-use Rattle.rules.specs.Entries.{entry, admitted, certified, isRead, readAbsent, withNaming, withPart, marked}
+use Rattle.rules.specs.Entries.{entry, admitted, certified, isRead, readAbsent, withDepartedBy, withPart, marked}
 use Rattle.rules.specs.Words.{recordFormed, recordTimed, recordGroups, finalizationFormed, finalizationLines, deciding}
 use Rattle.rules.specs.Outcome.{Outcome, unless}
-use Rattle.rules.specs.Good.{GoodTerms, GoodAbsence, Marked, GoodPart, isNaming, GoodEntry, GoodStamp, GoodDeparture, Good, OfWords}
+use Rattle.rules.specs.Good.{GoodTerms, GoodAbsence, Marked, GoodPart, isDepartedBy, GoodEntry, GoodStamp, GoodDeparture, Good, OfWords}
 use Rattle.rules.specs.Reached.{Leads, Reached}
 use Rattle.rules.proofs.Kept.{run-good, making-good}
 use Rattle.rules.proofs.Written.{shard-word, admissionWords, routes-read, terms-read, core-read, words-formed, words-timed, words-placed, words-words}
@@ -84,19 +84,19 @@ module _ (p : Plain) (t : Terms) (es : List Entry) (low : Above transactionOf (t
 
   -- an entry with these terms
   abbrev made : Part → ℕ → ℕ → List Absence → List ℕ → Bool → Entry
-  made part code naming cs ms isReturned =
+  made part code departedBy cs ms isReturned =
       record {
         terms = t;
         part = part;
         certificate = code;
-        naming = naming;
+        departedBy = departedBy;
         absences = cs;
         marks = ms;
         returned = isReturned;
       }
 
-  found : (part : Part) (code naming : ℕ) (cs : List Absence) (ms : List ℕ) (b : Bool) → get transactionOf tx (made part code naming cs ms b ∷ es) ≡ some (made part code naming cs ms b)
-  found part code naming cs ms b = rw (eq-eqb tx tx refl)
+  found : (part : Part) (code departedBy : ℕ) (cs : List Absence) (ms : List ℕ) (b : Bool) → get transactionOf tx (made part code departedBy cs ms b ∷ es) ≡ some (made part code departedBy cs ms b)
+  found part code departedBy cs ms b = rw (eq-eqb tx tx refl)
 
   -- certify
   certifies : (part : Part) (code : ℕ) → code ≤ 2 → Leads (front (made part 0 0 [] [] false)) (front (made part code 0 [] [] false))
@@ -111,18 +111,18 @@ module _ (p : Plain) (t : Terms) (es : List Entry) (low : Above transactionOf (t
       greater (suc n) = rw (lt-ltb 0 (suc n) (omega arith))
 
   -- absences, from the last
-  module _ (part : Part) (code naming : ℕ) where
+  module _ (part : Part) (code departedBy : ℕ) where
     reads : (a : Absence) (cs : List Absence) → GoodAbsence a → Above absenceKey (absenceKey a) cs → length cs < maxAbsences →
-        Leads (front (made part code naming cs [] false)) (front (made part code naming (a ∷ cs) [] false))
+        Leads (front (made part code departedBy cs [] false)) (front (made part code departedBy (a ∷ cs) [] false))
     unfolding afterAbsence
     reads a cs g b n =
         by (absence tx (a .shard) (a .key)) (g .key)
-        (accepted (absenceRefusal tx a (front (made part code naming cs [] false))) _ _
-        (rw (g .shard, found part code naming cs [] false, lt-leb maxAbsences (length cs) n, and-false (not (isRead a (made part code naming cs [] false)))))
-        ∙ ap (λ m. withEntries m p) (change-front transactionOf (readAbsent a) (made part code naming cs [] false) es low ∙ ap (λ m. made part code naming m [] false ∷ es) (include-below absenceKey a cs b)))
+        (accepted (absenceRefusal tx a (front (made part code departedBy cs [] false))) _ _
+        (rw (g .shard, found part code departedBy cs [] false, lt-leb maxAbsences (length cs) n, and-false (not (isRead a (made part code departedBy cs [] false)))))
+        ∙ ap (λ m. withEntries m p) (change-front transactionOf (readAbsent a) (made part code departedBy cs [] false) es low ∙ ap (λ m. made part code departedBy m [] false ∷ es) (include-below absenceKey a cs b)))
 
     all-read : (cs : List Absence) → Every GoodAbsence cs → Ascending absenceKey cs → length cs ≤ maxAbsences →
-        Leads (front (made part code naming [] [] false)) (front (made part code naming cs [] false))
+        Leads (front (made part code departedBy [] [] false)) (front (made part code departedBy cs [] false))
     all-read [] v a n = stay _
     all-read (x ∷ cs) v a n = and-then (all-read cs (v .1) (a .1) (omega arith)) (reads x cs (v .0) (a .0) (omega arith))
 
@@ -134,34 +134,34 @@ module _ (p : Plain) (t : Terms) (es : List Entry) (low : Above transactionOf (t
     same-count : min (p .rebuilt + 0) maxCount ≡ p .rebuilt
     same-count = omega arith
 
-    names : (isGood : isWord tx ≡ true) (naming : ℕ) → isNaming naming ≡ true → Leads (front (made part code 0 [] [] false)) (front (made part code naming [] [] false))
+    names : (isGood : isWord tx ≡ true) (departedBy : ℕ) → isDepartedBy departedBy ≡ true → Leads (front (made part code 0 [] [] false)) (front (made part code departedBy [] [] false))
     unfolding afterAbandonment recordFormed recordTimed recordGroups
     names isGood zero g = stay _
     names isGood (suc n) g =
         by (abandonment (groups (suc n))) (refl, (shard-word (suc n) g, (refl, (isGood, (refl, (refl, (refl, (refl, tt))))))))
         (accepted (abandonmentRefusal (groups (suc n)) (front (made part code 0 [] [] false))) _ _
         (rw (g, eq-eqb tx tx refl, le-ltb (maxEntries - suc (length es)) 0 (omega arith)))
-        ∙ rw (eq-eqb tx tx refl, same-count) (ap (λ m. withEntries (made part code (suc n) [] [] false ∷ m) p) (change-above transactionOf tx (withNaming (suc n)) es low)))
+        ∙ rw (eq-eqb tx tx refl, same-count) (ap (λ m. withEntries (made part code (suc n) [] [] false ∷ m) p) (change-above transactionOf tx (withDepartedBy (suc n)) es low)))
 
   -- records are marked, from the last
-  module _ (part : Part) (code naming : ℕ) (cs : List Absence) (isHeld : isSettling part ≡ true) where
+  module _ (part : Part) (code departedBy : ℕ) (cs : List Absence) (isHeld : isSettling part ≡ true) where
     marks : (r : ℕ) (ms : List ℕ) (isReturn : Bool) → issues (p .local) r t ≡ true → Above self r ms → (c : Call) → OfWords c →
-        step c (front (made part code naming cs ms false)) ≡ afterMark r tx isReturn (front (made part code naming cs ms false)) →
-        Leads (front (made part code naming cs ms false)) (front (made part code naming cs (r ∷ ms) isReturn))
+        step c (front (made part code departedBy cs ms false)) ≡ afterMark r tx isReturn (front (made part code departedBy cs ms false)) →
+        Leads (front (made part code departedBy cs ms false)) (front (made part code departedBy cs (r ∷ ms) isReturn))
     unfolding afterMark
     marks r ms isReturn i b c w e =
         by c w
         (ap (λ (o : Outcome). o .ledger) e
         ∙ ap (λ m. withEntries m p)
-        (change-front transactionOf (marked (p .local) r isReturn) (made part code naming cs ms false) es low ∙ rw (isHeld, i, include-below self r ms b)))
+        (change-front transactionOf (marked (p .local) r isReturn) (made part code departedBy cs ms false) es low ∙ rw (isHeld, i, include-below self r ms b)))
 
     all-settled : (ms : List ℕ) → Every (λ r. issues (p .local) r t ≡ true) ms → Ascending self ms →
-        Leads (front (made part code naming cs [] false)) (front (made part code naming cs ms false))
+        Leads (front (made part code departedBy cs [] false)) (front (made part code departedBy cs ms false))
     all-settled [] v a = stay _
     all-settled (r ∷ ms) v a = and-then (all-settled ms (v .1) (a .1)) (marks r ms false (v .0) (a .0) (settled r tx) tt refl)
 
     all-marked : (ms : List ℕ) (isReturned : Bool) → Marked (p .local) t ms isReturned →
-        Leads (front (made part code naming cs [] false)) (front (made part code naming cs ms isReturned))
+        Leads (front (made part code departedBy cs [] false)) (front (made part code departedBy cs ms isReturned))
     all-marked ms false m = all-settled ms (m .among) (m .rising)
     all-marked [] true m = absurd (false≢true (m .returned refl))
     all-marked (r ∷ ms) true m = and-then (all-settled ms (m .among .1) (m .rising .1)) (marks r ms true (m .among .0) (m .rising .0) (returned r tx) tt refl)
@@ -211,17 +211,17 @@ module _ (p : Plain) (t : Terms) (es : List Entry) (low : Above transactionOf (t
     comes-core h = comes 1 refl core (rw (terms-read 1 t, core-read 1 t, h))
 
     -- and is changed to what it is
-    module _ (count : p .rebuilt ≤ maxCount) (code naming : ℕ) (cs : List Absence) (small : code ≤ 2) (isNamed : isNaming naming ≡ true)
+    module _ (count : p .rebuilt ≤ maxCount) (code departedBy : ℕ) (cs : List Absence) (small : code ≤ 2) (isNamed : isDepartedBy departedBy ≡ true)
         (v : Every GoodAbsence cs) (a : Ascending absenceKey cs) (n : length cs ≤ maxAbsences) where
-      dressed : (part : Part) → Leads (front (made part 0 0 [] [] false)) (front (made part code naming cs [] false))
-      dressed part = and-then (certifies part code small) (and-then (names part code count (g .transaction) naming isNamed) (all-read part code naming cs v a n))
+      dressed : (part : Part) → Leads (front (made part 0 0 [] [] false)) (front (made part code departedBy cs [] false))
+      dressed part = and-then (certifies part code small) (and-then (names part code count (g .transaction) departedBy isNamed) (all-read part code departedBy cs v a n))
 
-      enters : (part : Part) (ms : List ℕ) (isReturned : Bool) → GoodPart part (p .local) t ms isReturned → Leads (withEntries es p) (front (made part code naming cs ms isReturned))
+      enters : (part : Part) (ms : List ℕ) (isReturned : Bool) → GoodPart part (p .local) t ms isReturned → Leads (withEntries es p) (front (made part code departedBy cs ms isReturned))
       enters whole ms b q = rw (q .2 .none, q .2 .returned) (and-then (comes-whole (q .0) (q .1)) (dressed whole))
-      enters leg ms b q = and-then (comes-leg (q .0)) (and-then (dressed leg) (all-marked leg code naming cs refl ms b (q .1)))
+      enters leg ms b q = and-then (comes-leg (q .0)) (and-then (dressed leg) (all-marked leg code departedBy cs refl ms b (q .1)))
       enters core ms b q = rw (q .1 .none, q .1 .returned) (and-then (comes-core (q .0)) (dressed core))
       enters remainder ms b q =
-          and-then (comes-core (q .0)) (and-then (turns (q .1)) (and-then (dressed remainder) (all-marked remainder code naming cs refl ms b (q .2))))
+          and-then (comes-core (q .0)) (and-then (turns (q .1)) (and-then (dressed remainder) (all-marked remainder code departedBy cs refl ms b (q .2))))
 
 all-enter : (p : Plain) → p .rebuilt ≤ maxCount → (es : List Entry) → length es ≤ maxEntries → Every (GoodEntry (p .local)) es → Ascending transactionOf es →
     Leads (withEntries [] p) (withEntries es p)
@@ -229,7 +229,7 @@ all-enter p count [] n v a = stay (withEntries [] p)
 all-enter p count (e ∷ es) n v a =
     let g = v .0 in
     and-then (all-enter p count es (omega arith) (v .1) (a .1))
-    (enters p (e .terms) es (a .0) (g .terms) (omega arith) count (e .certificate) (e .naming) (e .absences) (g .certificate) (g .naming) (g .absences) (g .absenceOrder) (g .absenceCount) (e .part) (e .marks) (e .returned) (g .part))
+    (enters p (e .terms) es (a .0) (g .terms) (omega arith) count (e .certificate) (e .departedBy) (e .absences) (g .certificate) (g .departedBy) (g .absences) (g .absenceOrder) (g .absenceCount) (e .part) (e .marks) (e .returned) (g .part))
 
 -- The running count: an entry is rebuilt and forgotten, as often as it takes.
 module _ (local v c l : ℕ) where

@@ -17,7 +17,7 @@ use Rattle.rules.specs.Numbers.{isWord, isTime, isShard}
 use Rattle.rules.specs.Plain.{Part, whole, leg, core, Edge, Terms}
 use Rattle.rules.specs.Words.{word, transactionSize, edge, with, routeCount, coreCount, edgeCount, figuresAt, decomposed, routesAt, coreAt, edgesAt, destinationsAt, coreIn, froms, kinds, sizes, destinations, edgesIn, admissionTerms, admissionTests, admissionFormed, admissionTimed, admissionPlaced, reachSizes, groupsAt, reachesAt, groupTerms, groupsFrom, recordGroups, recordTests, recordFormed, recordTimed, timed}
 use Rattle.rules.specs.Entries.{entry, wholeTerms, admitted, rebuilt}
-use Rattle.rules.specs.Good.{Holds, GoodEdge, GoodTerms, Unmarked, GoodPart, isNaming, GoodEntry}
+use Rattle.rules.specs.Good.{Holds, GoodEdge, GoodTerms, Unmarked, GoodPart, isDepartedBy, GoodEntry}
 
 words-at : (i : ℕ) (ws : List ℕ) → Every (Holds isWord) ws → isWord (word i ws) ≡ true
 words-at i ws v = every-getD (Holds isWord) 0 i ws refl v
@@ -135,10 +135,10 @@ whole-terms t g =
     }
 
 -- a new entry: its terms good, its part fit
-new-good : (local : ℕ) (q : Part) (t : Terms) (certificate naming : ℕ) → GoodTerms t → certificate ≤ 2 → isNaming naming ≡ true →
-    GoodPart q local t [] false → GoodEntry local (entry q t certificate naming)
-new-good local q t certificate naming g c n h =
-    record { terms = g; certificate = c; naming = n; absenceCount = omega arith; absences = tt; absenceOrder = tt; part = h }
+new-good : (local : ℕ) (q : Part) (t : Terms) (certificate departedBy : ℕ) → GoodTerms t → certificate ≤ 2 → isDepartedBy departedBy ≡ true →
+    GoodPart q local t [] false → GoodEntry local (entry q t certificate departedBy)
+new-good local q t certificate departedBy g c n h =
+    record { terms = g; certificate = c; departedBy = n; absenceCount = omega arith; absences = tt; absenceOrder = tt; part = h }
 
 unmarked : Unmarked [] false
 unmarked = record { none = refl; returned = refl }
@@ -204,6 +204,6 @@ groups-good ws v f t =
     (every-cut (Holds isWord) 8 (reachSizes ws) (drop (reachesAt ws) ws) (every-all (λ n. leb n 8) (reachSizes ws) limits) (every-drop (Holds isWord) (reachesAt ws) ws v))
     (every-all timed (recordGroups ws) t)
 
-pub rebuilt-good : (local shard : ℕ) (t : Terms) → isShard shard ≡ true → isNaming shard ≡ true → GoodGroup t → GoodEntry local (rebuilt shard t)
+pub rebuilt-good : (local shard : ℕ) (t : Terms) → isShard shard ≡ true → isDepartedBy shard ≡ true → GoodGroup t → GoodEntry local (rebuilt shard t)
 rebuilt-good local shard t s n g =
     new-good local whole t 2 shard (g .terms) (omega arith) n (g .coreless, g .edgeless, unmarked)

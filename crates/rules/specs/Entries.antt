@@ -9,12 +9,12 @@ use Rattle.rules.specs.Plain.{Part, whole, leg, core, remainder, Terms, 
 use Rattle.rules.specs.Words.{decomposed, coreIn, admissionTerms, Line}
 
 abbrev pub entry : Part → Terms → ℕ → ℕ → Entry
-entry part terms certificate naming =
+entry part terms certificate departedBy =
     record {
       terms = terms;
       part = part;
       certificate = certificate;
-      naming = naming;
+      departedBy = departedBy;
       absences = [];
       marks = [];
       returned = false;
@@ -42,7 +42,7 @@ admitted local ws =
     (entry whole (wholeTerms (admissionTerms ws)) 0 0)
     (entry (cond (has self local (coreIn ws)) core leg) (admissionTerms ws) 0 0)
 
--- an entry that an abandonment record brings back: whole, code 2, naming the shard
+-- an entry that an abandonment record brings back: whole, code 2, departed by the shard
 abbrev pub rebuilt : ℕ → Terms → Entry
 rebuilt shard t = entry whole t 2 shard
 
@@ -53,7 +53,7 @@ withPart part e =
       terms = e .terms;
       part = part;
       certificate = e .certificate;
-      naming = e .naming;
+      departedBy = e .departedBy;
       absences = e .absences;
       marks = [];
       returned = false;
@@ -65,19 +65,19 @@ withCertificate code e =
       terms = e .terms;
       part = e .part;
       certificate = code;
-      naming = e .naming;
+      departedBy = e .departedBy;
       absences = e .absences;
       marks = e .marks;
       returned = e .returned;
     }
 
-abbrev pub withNaming : ℕ → Entry → Entry
-withNaming shard e =
+abbrev pub withDepartedBy : ℕ → Entry → Entry
+withDepartedBy shard e =
     record {
       terms = e .terms;
       part = e .part;
       certificate = e .certificate;
-      naming = shard;
+      departedBy = shard;
       absences = e .absences;
       marks = e .marks;
       returned = e .returned;
@@ -89,7 +89,7 @@ withAbsences l e =
       terms = e .terms;
       part = e .part;
       certificate = e .certificate;
-      naming = e .naming;
+      departedBy = e .departedBy;
       absences = l;
       marks = e .marks;
       returned = e .returned;
@@ -101,7 +101,7 @@ withMarks l b e =
       terms = e .terms;
       part = e .part;
       certificate = e .certificate;
-      naming = e .naming;
+      departedBy = e .departedBy;
       absences = e .absences;
       marks = l;
       returned = b;
@@ -139,7 +139,7 @@ closingDecision e = cond (e .returned) 2 1
 abbrev pub withGroup : ℕ → Terms → List Entry → List Entry
 withGroup shard g es =
     cond (has transactionOf (g .transaction) es)
-    (change transactionOf (g .transaction) (withNaming shard) es)
+    (change transactionOf (g .transaction) (withDepartedBy shard) es)
     (include transactionOf (rebuilt shard g) es)
 
 -- group by group; and how many are rebuilt
@@ -154,14 +154,14 @@ rebuiltBy shard (g ∷ gs) es =
 
 -- Finalization, a line: what is done with the entry that it names
 pub data Ruling : Type 0 where
-  skip turn release : Ruling
+  skip resolve release : Ruling
 
 -- a leg or remainder not among the deciding is skipped; Accept (1) on a core entry with an owed edge from local turns it to
 -- remainder; all else is released
 abbrev pub rulingOn : ℕ → List ℕ → Line → Entry → Ruling
 rulingOn local deciding line e =
     cond (isSettling (e .part) && not (has self (line .transaction) deciding)) skip
-    (cond (eqb (line .decision) 1 && (isCore (e .part) && owes local (e .terms))) turn
+    (cond (eqb (line .decision) 1 && (isCore (e .part) && owes local (e .terms))) resolve
     release)
 
 -- unknown is skipped
@@ -171,12 +171,12 @@ ruling local deciding line (some e) = rulingOn local deciding line e
 
 abbrev pub ruled : Ruling → ℕ → List Entry → List Entry
 ruled skip t es = es
-ruled turn t es = change transactionOf t (withPart remainder) es
+ruled resolve t es = change transactionOf t (withPart remainder) es
 ruled release t es = without transactionOf t es
 
 abbrev pub isRelease : Ruling → ℕ
 isRelease skip = 0
-isRelease turn = 0
+isRelease resolve = 0
 isRelease release = 1
 
 -- line by line; and how many are released

@@ -62,14 +62,14 @@ GoodPart remainder local t marks isReturned =
     (has self local (t .coreShards) ≡ true) × (owes local t ≡ true) × Marked local t marks isReturned
 
 -- no record names the entry, or a shard's does
-abbrev pub isNaming : ℕ → Bool
-isNaming zero = true
-isNaming (suc n) = isShard (suc n)
+abbrev pub isDepartedBy : ℕ → Bool
+isDepartedBy zero = true
+isDepartedBy (suc n) = isShard (suc n)
 
 pub record GoodEntry (local : ℕ) (e : Entry) : Type 0 where
   pub terms : GoodTerms (e .terms)
   pub certificate : e .certificate ≤ 2
-  pub naming : isNaming (e .naming) ≡ true
+  pub departedBy : isDepartedBy (e .departedBy) ≡ true
   pub absenceCount : length (e .absences) ≤ maxAbsences
   pub absences : Every GoodAbsence (e .absences)
   pub absenceOrder : Ascending absenceKey (e .absences)

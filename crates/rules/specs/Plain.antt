@@ -60,13 +60,13 @@ pub record Absence : Type 0 where
   pub shard : ℕ
   pub key : ℕ
 
--- certificate: 0 none, 1 by abandonment, 2 by execution; naming: the shard whose record names the entry, 0 for none;
+-- certificate: 0 none, 1 by abandonment, 2 by execution; departedBy: the shard whose record names the entry, 0 for none;
 -- marks: the issued records that were settled or returned, rising; returned: whether a mark was a return
 pub record Entry : Type 0 where
   pub terms : Terms
   pub part : Part
   pub certificate : ℕ
-  pub naming : ℕ
+  pub departedBy : ℕ
   pub absences : List Absence
   pub marks : List ℕ
   pub returned : Bool
@@ -162,7 +162,7 @@ owes local t = any (λ g. eqb (g .kind) 1) (edgesFrom local t)
 
 -- a record names the entry
 abbrev pub isNamed : Entry → Bool
-isNamed e = ltb 0 (e .naming)
+isNamed e = ltb 0 (e .departedBy)
 
 -- covered: a record names it or it has an absence
 abbrev pub isCovered : Entry → Bool

@@ -24,8 +24,8 @@ abbrev pub over : Entry → ℕ → Departure → Bool
 over e route d = owns (d .shard) route && ltb (e .terms .anchor) (d .cut)
 
 -- a departure of the shard that names the entry
-abbrev pub isOfNaming : Entry → Departure → Bool
-isOfNaming e d = isNamed e && eqb (e .naming) (d .shard)
+abbrev pub isOfDepartedBy : Entry → Departure → Bool
+isOfDepartedBy e d = isNamed e && eqb (e .departedBy) (d .shard)
 
 -- the smallest cut counts, the lower shard on equal cuts
 abbrev pub countsBefore : Departure → Departure → Bool
@@ -72,7 +72,7 @@ ruleOf local e =
 abbrev pub standsBy : Rule → Plain → ℕ → Entry → Bool
 standsBy awaiting p now e = true
 standsBy settling p now e = ltb now (legHorizon p e)
-standsBy recorded p now e = any (readable now) (keep (isOfNaming e) (p .departures))
+standsBy recorded p now e = any (readable now) (keep (isOfDepartedBy e) (p .departures))
 standsBy answering p now e = any (λ r. answerable now (departureOver (p .departures) e r)) (remote (p .local) (e .terms))
 standsBy expiring p now e = ltb now (validityHorizon p e)
 
@@ -119,7 +119,7 @@ reports now p = map (reportOf (p .local)) (keep (λ e. isReported (ruleOf (p .lo
 
 -- the entry is named by the departure's shard, or the departure is over a remote route of it
 abbrev pub holds : ℕ → Departure → Entry → Bool
-holds local d e = isOfNaming e d || any (λ r. over e r d) (remote local (e .terms))
+holds local d e = isOfDepartedBy e d || any (λ r. over e r d) (remote local (e .terms))
 
 -- a departure remains exactly if a surviving entry holds it
 abbrev pub remains : ℕ → List Entry → Departure → Bool

@@ -12,7 +12,7 @@ use Rattle.lists.specs.Arrays.{rank, leads}
 use Rattle.lists.proofs.Order.{ascending-include, include-known, length-includeAll}
 use Rattle.lists.proofs.Loops.{rank-le, include-rank}
 use Rattle.lists.proofs.Ranked.{at-rank}
-use Rattle.shard_lists.specs.Sets.{Set, made, front, under, Sized, Sound, Holds, Opened}
+use Rattle.shard_lists.specs.Sets.{Set, made, front, under, Sized, Sound, Holds, Inserted}
 use Rattle.lists.proofs.Sets.{first-put}
 
 pub front-length : (s : Set) → Sized s → length (front s) ≡ s .len
@@ -30,7 +30,7 @@ module _ (s : Set) (x : ℕ) (h : Sound s) (k : ℕ) (q : k ≡ rank (under x) (
   pub known-in : (r : Bool) → r ≡ leads self x (drop k (front s)) → r ≡ true → Holds (include self x (front s)) s
   known-in r e t = record { sound = h; holds = sym (include-known self x (front s) (h .rising) (seen true r e t)) }
 
-  pub put-in : (r : Bool) (w : Set) → r ≡ leads self x (drop k (front s)) → r ≡ false → Opened s k x w → Holds (include self x (front s)) w
+  pub put-in : (r : Bool) (w : Set) → r ≡ leads self x (drop k (front s)) → r ≡ false → Inserted s k x w → Holds (include self x (front s)) w
   put-in r w b t o =
       let e : front w ≡ include self x (front s) = o .holds ∙ rw q (include-rank self x (front s) (seen false r b t)) in
       record { sound = record { sized = o .sized; rising = rw e (ascending-include self x (front s) (h .rising)) }; holds = e }

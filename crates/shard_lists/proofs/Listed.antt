@@ -22,7 +22,7 @@ use Rattle.store.specs.Roster.{keysOf, is}
 use Rattle.ledger.specs.declared.Ledger.{Ledger}
 use Rattle.ledger.specs.Contents.{contents, Held}
 use Rattle.ledger.proofs.Lift.{found-at, not-found}
-use Rattle.readings.specs.declared.Told.{Told}
+use Rattle.readings.specs.declared.Answer.{Answer}
 use Rattle.readings.specs.Reads.{Reads}
 use Rattle.readings.specs.Answers.{Tells, Refuses, Lists}
 use Rattle.readings.proofs.Written.{reads-list, turned-away}
@@ -43,25 +43,25 @@ owed-at l h t k e =
     record { place = omega (arith, a .place, h .roster .room); slot = a .slot; fits = a .fits }
 
 -- one word an item: the items written out are the list
-alone : (items lent after : List ℕ) (r : Told) (p : Plain) (m : ℕ) → m ≡ 0 → Lists items (length items) lent after r →
+alone : (items lent after : List ℕ) (r : Answer) (p : Plain) (m : ℕ) → m ≡ 0 → Lists items (length items) lent after r →
     Reads (listing m (length lent) single items p) lent after r
 alone items lent after r p m z h = reads-list single items p m lent after r z (rw (concatMap-single items) h)
 
 -- the first n of some numbers are n items
-first : (items lent after : List ℕ) (n : ℕ) (r : Told) → n ≤ length items → Lists (take n items) n lent after r → Lists (take n items) (length (take n items)) lent after r
+first : (items lent after : List ℕ) (n : ℕ) (r : Answer) → n ≤ length items → Lists (take n items) n lent after r → Lists (take n items) (length (take n items)) lent after r
 first items lent after n r h w = rw (length-take-le n items h) w
 
-nothing : (lent : List ℕ) (r : Told) → Tells 0 r → Lists [] 0 lent lent r
+nothing : (lent : List ℕ) (r : Answer) → Tells 0 r → Lists [] 0 lent lent r
 nothing lent r w =
     let t : ltb (length lent) 0 ≡ false = le-ltb (length lent) 0 (omega arith) in
     record { refused = rw t (w .refused); answer = rw t (w .answer); wrote = rw t }
 
 module _ (l : Ledger) (h : Held l) (t : ℕ) (lent : List ℕ) (f : plain.Entry → List ℕ) (m : ℕ) (z : m ≡ 0) where
-  pub not-owed : (r : Told) → place (is t) 0 (keysOf (l .roster)) ≡ Nothing → Tells 0 r →
+  pub not-owed : (r : Answer) → place (is t) 0 (keysOf (l .roster)) ≡ Nothing → Tells 0 r →
       Reads (listing m (length lent) single (listOf f (entryOf t (contents l))) (contents l)) lent lent r
   not-owed r e w = rw (not-found l h t e .got) (alone [] lent lent r (contents l) m z (nothing lent r w))
 
-  pub of-owed : (k : ℕ) (d : Entry) (items after : List ℕ) (n : ℕ) (r : Told) → place (is t) 0 (keysOf (l .roster)) ≡ At k → n ≤ length items →
+  pub of-owed : (k : ℕ) (d : Entry) (items after : List ℕ) (n : ℕ) (r : Answer) → place (is t) 0 (keysOf (l .roster)) ≡ At k → n ≤ length items →
       take n items ≡ f (plainEntry (getD (l .entries) (getD (l .roster .slots) k 0) d)) → Lists (take n items) n lent after r →
       Reads (listing m (length lent) single (listOf f (entryOf t (contents l))) (contents l)) lent after r
   of-owed k d items after n r e b q w =
@@ -70,7 +70,7 @@ module _ (l : Ledger) (h : Held l) (t : ℕ) (lent : List ℕ) (f : plain.Entry 
 pub set-room : {l : List ℕ} {s : Set} → Holds l s → s .len ≤ length (s .items)
 set-room h = omega (arith, h .sound .sized .room, h .sound .sized .size)
 
-pub of-departures : (l : Ledger) (s : Set) (lent after : List ℕ) (r : Told) → Holds (unstampedOn (onFile (l .departures))) s → Lists (front s) (s .len) lent after r →
+pub of-departures : (l : Ledger) (s : Set) (lent after : List ℕ) (r : Answer) → Holds (unstampedOn (onFile (l .departures))) s → Lists (front s) (s .len) lent after r →
     Reads (read (listUnstamped (length lent)) (contents l)) lent after r
 unfolding unstampedDepartures contents
 of-departures l s lent after r h w =
@@ -78,18 +78,18 @@ of-departures l s lent after r h w =
 
 -- counterparts: a depth over 32 is refused before anything is looked up
 module _ (l : Ledger) (h : Held l) (t d : ℕ) (lent : List ℕ) where
-  pub too-deep : (r : Told) → 32 < d → Refuses 5 r → Reads (read (listCounterparts t d (length lent)) (contents l)) lent lent r
+  pub too-deep : (r : Answer) → 32 < d → Refuses 5 r → Reads (read (listCounterparts t d (length lent)) (contents l)) lent lent r
   too-deep r b w = turned-away single (counterparts t d (contents l)) (contents l) (depthRefusal d) lent 5 r (rw (lt-ltb 32 d b)) (omega arith) w
 
   shallow : d ≤ 32 → depthRefusal d ≡ 0
   shallow b = rw (le-ltb 32 d b)
 
-  pub no-counterparts : (r : Told) → d ≤ 32 → place (is t) 0 (keysOf (l .roster)) ≡ Nothing → Tells 0 r →
+  pub no-counterparts : (r : Answer) → d ≤ 32 → place (is t) 0 (keysOf (l .roster)) ≡ Nothing → Tells 0 r →
       Reads (read (listCounterparts t d (length lent)) (contents l)) lent lent r
   unfolding counterparts
   no-counterparts r b e w = not-owed l h t lent (counterpartsOf (contents l) d) (depthRefusal d) (shallow b) r e w
 
-  pub of-counterparts : d ≤ 32 → (k : ℕ) (x : Entry) (s : Set) (after : List ℕ) (r : Told) → place (is t) 0 (keysOf (l .roster)) ≡ At k →
+  pub of-counterparts : d ≤ 32 → (k : ℕ) (x : Entry) (s : Set) (after : List ℕ) (r : Answer) → place (is t) 0 (keysOf (l .roster)) ≡ At k →
       Holds (counterpartsAt (l .local .0) (onFile (l .departures)) d (plainEntry (getD (l .entries) (getD (l .roster .slots) k 0) x))) s →
       Lists (front s) (s .len) lent after r → Reads (read (listCounterparts t d (length lent)) (contents l)) lent after r
   unfolding counterparts contents

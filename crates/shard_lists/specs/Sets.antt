@@ -44,7 +44,7 @@ pub record Holds (l : List ℕ) (s : Set) : Type 0 where
   pub holds : front s ≡ l
 
 -- x was put in at k
-pub record Opened (s₀ : Set) (k x : ℕ) (s : Set) : Type 0 where
+pub record Inserted (s₀ : Set) (k x : ℕ) (s : Set) : Type 0 where
   pub sized : Sized s
   pub holds : front s ≡ insertAt k x (front s₀)
 

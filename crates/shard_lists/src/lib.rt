@@ -20,10 +20,10 @@ ghost use Rattle.shard_lists.specs.Sets.{made, front, Sound, Holds, File
 use entry::Entry;
 use ledger::Ledger;
 use lists::Found;
-use readings::Told;
-use readings::telling::list;
-use readings::telling::refusal;
-use readings::telling::told;
+use readings::Answer;
+use readings::reply::list;
+use readings::reply::refusal;
+use readings::reply::answer;
 use store::departures::Departure;
 use store::departures::Departures;
 use types::RecordKey;
@@ -51,7 +51,7 @@ fn unstamped(filed: Departures, items: &mut [u64; 264]) -> usize
     m
 }
 
-pub fn unstamped_departures(ledger: Ledger, lent: &mut [u64]) -> Told
+pub fn unstamped_departures(ledger: Ledger, lent: &mut [u64]) -> Answer
     requires { ⌜ Held ledger ⌝ }
     ensures { λ r. ⌜ Reads (read (rules.listUnstamped (length (now (lent .entry)))) (contents ledger)) (now (lent .entry)) (now (lent .exit)) r ⌝ }
 {
@@ -61,13 +61,13 @@ pub fn unstamped_departures(ledger: Ledger, lent: &mut [u64]) -> Told
     list(&items, n, n, lent)
 }
 
-pub fn reach(ledger: Ledger, tx: Transaction, lent: &mut [u64]) -> Told
+pub fn reach(ledger: Ledger, tx: Transaction, lent: &mut [u64]) -> Answer
     requires { ⌜ Held ledger ⌝ }
     ensures { λ r. ⌜ Reads (read (rules.reach (tx .0) (length (now (lent .entry)))) (contents ledger)) (now (lent .entry)) (now (lent .exit)) r ⌝ }
 {
     let roster = ledger.roster;
     let Found::At(k) = roster.find(tx) else {
-        return told(0);
+        return answer(0);
     };
     let slot = roster.slots[k];
     let e = ledger.entries[slot];
@@ -102,13 +102,13 @@ fn destinations(e: Entry, local: Shard, r: RecordKey, items: &mut [u64; 264]) ->
     m
 }
 
-pub fn claimants(ledger: Ledger, tx: Transaction, r: RecordKey, lent: &mut [u64]) -> Told
+pub fn claimants(ledger: Ledger, tx: Transaction, r: RecordKey, lent: &mut [u64]) -> Answer
     requires { ⌜ Held ledger ⌝ }
     ensures { λ x. ⌜ Reads (read (rules.listClaimants (tx .0) (r .0) (length (now (lent .entry)))) (contents ledger)) (now (lent .entry)) (now (lent .exit)) x ⌝ }
 {
     let roster = ledger.roster;
     let Found::At(k) = roster.find(tx) else {
-        return told(0);
+        return answer(0);
     };
     let slot = roster.slots[k];
     let e = ledger.entries[slot];
@@ -175,7 +175,7 @@ fn beyond(e: Entry, on_file: Departures, local: Shard, d: u32, items: &mut [u64;
     m
 }
 
-pub fn counterparts(ledger: Ledger, tx: Transaction, depth: u64, lent: &mut [u64]) -> Told
+pub fn counterparts(ledger: Ledger, tx: Transaction, depth: u64, lent: &mut [u64]) -> Answer
     requires { ⌜ Held ledger ⌝ }
     ensures { λ r. ⌜ Reads (read (rules.listCounterparts (tx .0) depth (length (now (lent .entry)))) (contents ledger)) (now (lent .entry)) (now (lent .exit)) r ⌝ }
 {
@@ -184,7 +184,7 @@ pub fn counterparts(ledger: Ledger, tx: Transaction, depth: u64, lent: &mut [u64
     }
     let roster = ledger.roster;
     let Found::At(k) = roster.find(tx) else {
-        return told(0);
+        return answer(0);
     };
     let slot = roster.slots[k];
     let e = ledger.entries[slot];

@@ -5,7 +5,7 @@ ghost use Prim.Native.Nat.{_+_, _≤_, _<_};
 ghost use lib.ListN.{take, drop};
 ghost use Rattle.lists.specs.Lists.{include, includeAll, part, self as itself};
 ghost use Rattle.lists.specs.Arrays.{rank as rankOf, leads};
-ghost use Rattle.shard_lists.specs.Sets.{made, front, under, Sized, Sound, Holds, Opened};
+ghost use Rattle.shard_lists.specs.Sets.{made, front, under, Sized, Sound, Holds, Inserted};
 use types::Shard;
 
 // How many, from the front, are lower than x.
@@ -32,9 +32,9 @@ fn stands(items: &[u64; 264], n: usize, k: usize, x: Shard) -> bool
 }
 
 // The shards with x put in at k: those from k on move up by one, from the end.
-fn open(items: &mut [u64; 264], n: usize, k: usize, x: Shard)
+fn insert_at(items: &mut [u64; 264], n: usize, k: usize, x: Shard)
     requires { ⌜ Sized (made (now items) n) × (k ≤ n) × (n < 264) ⌝ }
-    ensures { λ r. ⌜ Opened (made (now (items .entry)) n) k (x .0) (made (now (items .exit)) (n + 1)) ⌝ }
+    ensures { λ r. ⌜ Inserted (made (now (items .entry)) n) k (x .0) (made (now (items .exit)) (n + 1)) ⌝ }
 {
     let mut i = n;
     while k < i {
@@ -54,7 +54,7 @@ pub fn include(items: &mut [u64; 264], n: usize, x: Shard) -> usize
     if stands(items, n, k, x) {
         return n;
     }
-    open(items, n, k, x);
+    insert_at(items, n, k, x);
     n + 1
 }
 

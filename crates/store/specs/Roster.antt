@@ -37,20 +37,20 @@ pub record Fresh (r : Roster) : Type 0 where
   pub sound : Sound r
   pub none : r .len ≡ 0
 
-pub record Opened (r₀ : Roster) (k t : ℕ) (r : Roster) : Type 0 where
+pub record Inserted (r₀ : Roster) (k t : ℕ) (r : Roster) : Type 0 where
   pub sound : Sound r
   pub len : r .len ≡ r₀ .len + 1
   pub keys : keysOf r ≡ insertAt k t (keysOf r₀)
   pub slots : slotsOf r ≡ insertAt k (freeSlot r₀) (slotsOf r₀)
 
-pub record Closed (r₀ : Roster) (k : ℕ) (r : Roster) : Type 0 where
+pub record Removed (r₀ : Roster) (k : ℕ) (r : Roster) : Type 0 where
   pub sound : Sound r
   pub len : r .len ≡ r₀ .len - 1
   pub keys : keysOf r ≡ removeAt k (keysOf r₀)
   pub slots : slotsOf r ≡ removeAt k (slotsOf r₀)
 
 -- those whose flag is up are kept
-pub record Kept (r₀ : Roster) (flags : List Bool) (r : Roster) : Type 0 where
+pub record Retained (r₀ : Roster) (flags : List Bool) (r : Roster) : Type 0 where
   pub sound : Sound r
   pub keys : keysOf r ≡ keepBy flags (keysOf r₀)
   pub slots : slotsOf r ≡ keepBy flags (slotsOf r₀)

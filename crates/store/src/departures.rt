@@ -89,7 +89,7 @@ impl Departures {
     }
 
     // The departure put in at k: those from k on move up by one, from the end.
-    fn opened(self, k: usize, d: Departure) -> Departures
+    fn insert_at(self, k: usize, d: Departure) -> Departures
         requires { ⌜ Sound self × (k ≤ self .len) × (self .len < 32) ⌝ }
         ensures { λ r. ⌜ Holds (insertAt k (plainDeparture d) (onFile self)) r ⌝ }
     {
@@ -122,7 +122,7 @@ impl Departures {
             stamped: false,
         };
         let k = self.rank(shard);
-        self.opened(k, d)
+        self.insert_at(k, d)
     }
 
     // The shard's departure stamped, unless it is stamped already or not on file: the first stamp holds.
@@ -141,7 +141,7 @@ impl Departures {
     }
 
     // Those whose flag is up, in their order.
-    pub fn kept(self, stay: [bool; 32]) -> Departures
+    pub fn retain(self, stay: [bool; 32]) -> Departures
         requires { ⌜ Sound self ⌝ }
         ensures { λ r. ⌜ Holds (keepBy (take (self .len) stay) (onFile self)) r ⌝ }
     {

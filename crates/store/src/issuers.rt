@@ -87,7 +87,7 @@ fn stands_at(
 }
 
 // A pair put in at k among the first n: those from k on move up by one, from the end.
-fn open(
+fn insert_at(
     records: &mut [u64; 384],
     transactions: &mut [u64; 384],
     n: usize,
@@ -125,7 +125,7 @@ pub fn name(
     if stands_at(records, transactions, n, k, r, t) {
         return n;
     }
-    open(records, transactions, n, k, r, t);
+    insert_at(records, transactions, n, k, r, t);
     n + 1
 }
 
@@ -153,7 +153,7 @@ impl Issuers {
     }
 
     // Those whose flag is up, in their order.
-    pub fn kept(self, stay: [bool; 384]) -> Issuers
+    pub fn retain(self, stay: [bool; 384]) -> Issuers
         requires { ⌜ Sound self ⌝ }
         ensures { λ x. ⌜ Holds (keepBy (take (self .len) stay) (pairsIn self)) x ⌝ }
     {
@@ -187,6 +187,6 @@ impl Issuers {
             stay[i] = self.transactions[i] != t.0;
             i += 1;
         }
-        self.kept(stay)
+        self.retain(stay)
     }
 }

@@ -4,7 +4,7 @@ ghost use mathlib.Core.Path.{_≡_};
 ghost use Prim.Native.Nat.{_≤_, _<_};
 ghost use lib.ListN.{take};
 ghost use Rattle.lists.specs.Arrays.{place, rank};
-ghost use Rattle.store.specs.Roster.{Sound, Fresh, Opened, Closed, Kept, keysOf, is, below};
+ghost use Rattle.store.specs.Roster.{Sound, Fresh, Inserted, Removed, Retained, keysOf, is, below};
 use lists::Found;
 use types::Transaction;
 
@@ -109,9 +109,9 @@ impl Roster {
     }
 
     // The transaction put in at a place, with the first slot that is not in use.
-    pub fn opened(self, k: usize, tx: Transaction) -> Roster
+    pub fn insert_at(self, k: usize, tx: Transaction) -> Roster
         requires { ⌜ Sound self × (k ≤ self .len) × (self .len < 48) ⌝ }
-        ensures { λ r. ⌜ Opened self k (tx .0) r ⌝ }
+        ensures { λ r. ⌜ Inserted self k (tx .0) r ⌝ }
     {
         let mut r = self;
         let n = r.len;
@@ -130,9 +130,9 @@ impl Roster {
     }
 
     // What stands at a place let go: its slot goes behind those in use.
-    pub fn closed(self, k: usize) -> Roster
+    pub fn remove_at(self, k: usize) -> Roster
         requires { ⌜ Sound self × (k < self .len) ⌝ }
-        ensures { λ r. ⌜ Closed self k r ⌝ }
+        ensures { λ r. ⌜ Removed self k r ⌝ }
     {
         let mut r = self;
         let m = r.len - 1;
@@ -150,9 +150,9 @@ impl Roster {
     }
 
     // Those whose flag is up, in their order; the slots of the others go behind them.
-    pub fn kept(self, stay: [bool; 48]) -> Roster
+    pub fn retain(self, stay: [bool; 48]) -> Roster
         requires { ⌜ Sound self ⌝ }
-        ensures { λ r. ⌜ Kept self (take (self .len) stay) r ⌝ }
+        ensures { λ r. ⌜ Retained self (take (self .len) stay) r ⌝ }
     {
         let mut r = self;
         let n = r.len;

@@ -26,7 +26,7 @@ use Rattle.entry.specs.declared.Entry.{Entry}
 use Rattle.entry.specs.Entry.{plainEntry}
 use Rattle.store.specs.declared.roster.Roster.{Roster}
 use Rattle.store.specs.declared.issuers.Issuers.{Issuers}
-use Rattle.store.specs.Roster.{keysOf, Kept}
+use Rattle.store.specs.Roster.{keysOf, Retained}
 use Rattle.store.specs.Issuers as issuers
 use Rattle.store.specs.Issuers.{pairsIn}
 use Rattle.ledger.specs.declared.Ledger.{Ledger}
@@ -174,7 +174,7 @@ module _ (l : Ledger) (h : Held l) (lent : List ℕ) (c : Closing) (j : Judges l
       refuses 8 l lent (closesRefusal (length lent) (contents l)) _ (saysNo 9 l) h
       (rw (lt-ltb (length lent) (length (concatMap closeWords (calls.closed (contents l)))) (omega (arith, q, ap length words-of, listed-length)))) refl
 
-  kept-open : (r : Roster) → Kept (l .roster) (take (l .roster .len) (c .stay)) r → (x : Issuers) →
+  kept-open : (r : Roster) → Retained (l .roster) (take (l .roster .len) (c .stay)) r → (x : Issuers) →
       issuers.Holds (unnamedBy (take (l .roster .len) (c .stay)) (keysOf (l .roster)) (pairsIn (l .issuers))) x →
       Good (withEntries (keep (λ e. not (isClosed (contents l .local) e)) (contents l .entries)) (contents l)) →
       Became (withEntries (keep (λ e. not (isClosed (contents l .local) e)) (contents l .entries)) (contents l)) (withParts l r (l .entries) x)
@@ -183,7 +183,7 @@ module _ (l : Ledger) (h : Held l) (lent : List ℕ) (c : Closing) (j : Judges l
       kept-all (staysOpen (l .local .0)) l h (take (l .roster .len) (c .stay)) r x (j .stay) k
       (unnamed-index (staysOpen (l .local .0)) l h (take (l .roster .len) (c .stay)) x (j .stay) i) g
 
-  pub closes-done : 2 * c .count ≤ length lent → (r : Roster) → Kept (l .roster) (take (l .roster .len) (c .stay)) r → (x : Issuers) →
+  pub closes-done : 2 * c .count ≤ length lent → (r : Roster) → Retained (l .roster) (take (l .roster .len) (c .stay)) r → (x : Issuers) →
       issuers.Holds (unnamedBy (take (l .roster .len) (c .stay)) (keysOf (l .roster)) (pairsIn (l .issuers))) x → (after : List ℕ) → after ≡ sets lent 0 (listed (l .roster) c) →
       Meets (afterCloses (length lent) (contents l)) lent after (says (c .count) (withParts l r (l .entries) x))
   unfolding afterCloses

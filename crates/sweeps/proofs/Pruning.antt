@@ -91,8 +91,8 @@ module _ (stands tells : Entry → Bool) (row : Entry → List ℕ) (held : Depa
   abbrev pub falling : List Entry → List Entry
   falling es = keep (λ e. not (stands e)) es
 
-  abbrev pub told : List Entry → List Entry
-  told es = keep tells (falling es)
+  abbrev pub reported : List Entry → List Entry
+  reported es = keep tells (falling es)
 
   pub record Judging (es : List Entry) (ds : List Departure) (r : Pruning) (i : ℕ) : Type 0 where
     pub high : i ≤ length es
@@ -101,16 +101,16 @@ module _ (stands tells : Entry → Bool) (row : Entry → List ℕ) (held : Depa
     pub stayLength : length (r .stay) ≡ 48
     pub neededLength : length (r .needed) ≡ 32
     pub wordsLength : length (r .words) ≡ 144
-    pub shut : r .spare ≡ false → any not (take (length ds) (r .needed)) ≡ false
+    pub shut : r .«some_unneeded» ≡ false → any not (take (length ds) (r .needed)) ≡ false
     pub clear : Every (λ b. b ≡ false) (drop i (r .stay))
     pub flags : take i (r .stay) ++ map stands (drop i es) ≡ map stands es
     pub needs : zipBy (λ b d. b || any (held d) (keep stands (drop i es))) (take (length ds) (r .needed)) ds ≡ map (λ d. any (held d) (keep stands es)) ds
-    pub rows : take (3 * r .reports) (r .words) ++ concatMap row (told (drop i es)) ≡ concatMap row (told es)
-    pub count : r .reports + length (told (drop i es)) ≡ length (told es)
+    pub rows : take (3 * r .reports) (r .words) ++ concatMap row (reported (drop i es)) ≡ concatMap row (reported es)
+    pub count : r .reports + length (reported (drop i es)) ≡ length (reported es)
     pub gone : r .fallen + length (falling (drop i es)) ≡ length (falling es)
 
   module _ (es : List Entry) (ds : List Departure) (few-ds : length ds ≤ 32) where
-    pub judging-none : Judging es ds (record { stay = replicate 48 false; needed = replicate 32 false; spare = true; words = replicate 144 0; reports = 0; fallen = 0 }) 0
+    pub judging-none : Judging es ds (record { stay = replicate 48 false; needed = replicate 32 false; «some_unneeded» = true; words = replicate 144 0; reports = 0; fallen = 0 }) 0
     judging-none =
         record {
           high = omega arith;
@@ -140,10 +140,10 @@ module _ (stands tells : Entry → Bool) (row : Entry → List ℕ) (held : Depa
         flags-down : stands e ≡ false → take (i + 1) (r .stay) ++ map stands (drop (i + 1) es) ≡ map stands es
         flags-down t = rw (set-same (r .stay) i false (here-clear .0)) at (flags-on false (sym t))
 
-        pub turn-stands : (needed : List Bool) (spare : Bool) → length needed ≡ 32 → (spare ≡ false → any not (take (length ds) needed) ≡ false) → stands e ≡ true →
+        pub turn-stands : (needed : List Bool) («some_unneeded» : Bool) → length needed ≡ 32 → («some_unneeded» ≡ false → any not (take (length ds) needed) ≡ false) → stands e ≡ true →
             take (length ds) needed ≡ zipBy (λ b d. b || held d e) (take (length ds) (r .needed)) ds →
-            Judging es ds (record { stay = set (r .stay) i true; needed = needed; spare = spare; words = r .words; reports = r .reports; fallen = r .fallen }) (i + 1)
-        turn-stands needed spare size shut t n =
+            Judging es ds (record { stay = set (r .stay) i true; needed = needed; «some_unneeded» = «some_unneeded»; words = r .words; reports = r .reports; fallen = r .fallen }) (i + 1)
+        turn-stands needed «some_unneeded» size shut t n =
             record {
               high = omega arith;
               few = omega (arith, v .few);
@@ -161,14 +161,14 @@ module _ (stands tells : Entry → Bool) (row : Entry → List ℕ) (held : Depa
             }
 
         -- every flag is up, so nothing is asked of one that stands
-        pub turn-idle : r .spare ≡ false → stands e ≡ true →
-            Judging es ds (record { stay = set (r .stay) i true; needed = r .needed; spare = r .spare; words = r .words; reports = r .reports; fallen = r .fallen }) (i + 1)
+        pub turn-idle : r .«some_unneeded» ≡ false → stands e ≡ true →
+            Judging es ds (record { stay = set (r .stay) i true; needed = r .needed; «some_unneeded» = r .«some_unneeded»; words = r .words; reports = r .reports; fallen = r .fallen }) (i + 1)
         turn-idle o t =
-            turn-stands (r .needed) (r .spare) (v .neededLength) (v .shut) t
+            turn-stands (r .needed) (r .«some_unneeded») (v .neededLength) (v .shut) t
             (sym (join-up (λ d. held d e) (take (length ds) (r .needed)) ds (length-take-le (length ds) (r .needed) (omega (arith, v .neededLength))) (v .shut o)))
 
         pub turn-falls : stands e ≡ false → tells e ≡ false →
-            Judging es ds (record { stay = r .stay; needed = r .needed; spare = r .spare; words = r .words; reports = r .reports; fallen = r .fallen + 1 }) (i + 1)
+            Judging es ds (record { stay = r .stay; needed = r .needed; «some_unneeded» = r .«some_unneeded»; words = r .words; reports = r .reports; fallen = r .fallen + 1 }) (i + 1)
         turn-falls t f =
             record {
               high = omega arith;
@@ -186,19 +186,19 @@ module _ (stands tells : Entry → Bool) (row : Entry → List ℕ) (held : Depa
               gone = omega (arith, rw (cons, t) at (v .gone));
             }
 
-        pub turn-told : (x y z : ℕ) → stands e ≡ false → tells e ≡ true → row e ≡ x ∷ y ∷ z ∷ [] →
+        pub turn-reported : (x y z : ℕ) → stands e ≡ false → tells e ≡ true → row e ≡ x ∷ y ∷ z ∷ [] →
             Judging es ds (record {
               stay = r .stay;
               needed = r .needed;
-              spare = r .spare;
+              «some_unneeded» = r .«some_unneeded»;
               words = set (set (set (r .words) (3 * r .reports) x) (3 * r .reports + 1) y) (3 * r .reports + 2) z;
               reports = r .reports + 1;
               fallen = r .fallen + 1;
             }) (i + 1)
-        turn-told x y z t f w =
+        turn-reported x y z t f w =
             let k = r .reports in
             let more : 3 * (k + 1) ≡ 3 * k + 3 = omega arith in
-            let rest = concatMap row (told (drop (i + 1) es)) in
+            let rest = concatMap row (reported (drop (i + 1) es)) in
             record {
               high = omega arith;
               few = omega (arith, v .few);
@@ -228,10 +228,10 @@ module _ (stands tells : Entry → Bool) (row : Entry → List ℕ) (held : Depa
             sym (join-none (take (length ds) (r .needed)) ds (length-take-le (length ds) (r .needed) (omega (arith, v .neededLength))))
             ∙ rw (rest-none es i z) at (v .needs)
 
-        pub all-rows : take (3 * r .reports) (r .words) ≡ concatMap row (told es)
+        pub all-rows : take (3 * r .reports) (r .words) ≡ concatMap row (reported es)
         all-rows = sym (append-nil (take (3 * r .reports) (r .words))) ∙ rw (rest-none es i z) at (v .rows)
 
-        pub all-count : r .reports ≡ length (told es)
+        pub all-count : r .reports ≡ length (reported es)
         all-count = omega (arith, rw (rest-none es i z) at (v .count))
 
         pub all-gone : r .fallen ≡ length (falling es)

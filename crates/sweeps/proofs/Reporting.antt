@@ -26,7 +26,7 @@ use Rattle.entry.specs.Entry.{plainEntry}
 use Rattle.store.specs.declared.roster.Roster.{Roster}
 use Rattle.store.specs.declared.issuers.Issuers.{Issuers}
 use Rattle.store.specs.declared.departures.Departures.{Departures}
-use Rattle.store.specs.Roster.{keysOf, slotsOf, Kept}
+use Rattle.store.specs.Roster.{keysOf, slotsOf, Retained}
 use Rattle.store.specs.Issuers as issuers
 use Rattle.store.specs.Issuers.{pairsIn}
 use Rattle.store.specs.Departures as departures
@@ -35,7 +35,7 @@ use Rattle.store.proofs.Rosters.{slot-within}
 use Rattle.store.proofs.Filed.{file-length}
 use Rattle.judge.specs.declared.views.View.{View}
 use Rattle.judge.specs.declared.verdicts.Verdict.{Verdict}
-use Rattle.judge.specs.declared.verdicts.Verdict.the-variants.{Stands, Falls, Told}
+use Rattle.judge.specs.declared.verdicts.Verdict.the-variants.{Stands, Falls, Reported}
 use Rattle.judge.specs.View.{Shows}
 use Rattle.judge.specs.Verdict.{Says, Faces}
 use Rattle.judge.proofs.Seeing as seeing
@@ -46,14 +46,14 @@ use Rattle.ledger.proofs.Lift.{withParts, Became, entries-length, entry-in, fil
 use Rattle.ledger.proofs.Meeting.{refuses, passes, saysNo}
 use Rattle.sweeps.specs.declared.prune.Pruning.{Pruning}
 use Rattle.sweeps.specs.Leaving.{unnamedBy}
-use Rattle.sweeps.specs.Pruning.{orHolds, Reads, begun, Judges, refusalBy}
+use Rattle.sweeps.specs.Pruning.{orHolds, Columns, begun, Judges, refusalBy}
 use Rattle.sweeps.proofs.Several.{entries-cons, unnamed-index, kept-all}
-use Rattle.sweeps.proofs.Pruning.{Judging, judging-none, turn-stands, turn-idle, turn-falls, turn-told, all-stay, all-needed, all-rows, all-count, all-gone}
+use Rattle.sweeps.proofs.Pruning.{Judging, judging-none, turn-stands, turn-idle, turn-falls, turn-reported, all-stay, all-needed, all-rows, all-count, all-gone}
 
 -- The pass as the rules judge.
 module _ (l : Ledger) (now : ℕ) where
-  abbrev telling : plain.Entry → Bool
-  telling e = isReported (ruleOf (contents l .local) e)
+  abbrev reporting : plain.Entry → Bool
+  reporting e = isReported (ruleOf (contents l .local) e)
 
   abbrev rowOf : plain.Entry → List ℕ
   rowOf e = reportWords (reportOf (contents l .local) e)
@@ -62,7 +62,7 @@ module _ (l : Ledger) (now : ℕ) where
   holding d e = holds (contents l .local) d e
 
   abbrev pub JudgingIn : Pruning → ℕ → Type 0
-  JudgingIn r i = Judging (stands (contents l) now) telling rowOf holding (entriesOf l) (onFile (l .departures)) r i
+  JudgingIn r i = Judging (stands (contents l) now) reporting rowOf holding (entriesOf l) (onFile (l .departures)) r i
 
 -- what the rules say of a row is what they say of its report
 rows-reports : (f : plain.Entry → Report) (es : List plain.Entry) → concatMap (λ e. reportWords (f e)) es ≡ concatMap reportWords (map f es)
@@ -90,7 +90,7 @@ module _ (l : Ledger) (h : Held l) (now : ℕ) where
   entries-few = omega (arith, entries-length l h, h .roster .room)
 
   pub pass-none : JudgingIn l now begun 0
-  pass-none = judging-none (stands (contents l) now) (telling l now) (rowOf l now) (holding l now) (entriesOf l) (onFile (l .departures)) file-few
+  pass-none = judging-none (stands (contents l) now) (reporting l now) (rowOf l now) (holding l now) (entriesOf l) (onFile (l .departures)) file-few
 
   pub local-good : isShard (l .local .0) ≡ true
   unfolding contents
@@ -134,41 +134,41 @@ module _ (l : Ledger) (h : Held l) (now : ℕ) where
       unfolding contents
       judgement = said (contents l) (record { local = refl; validity = refl; legSpan = refl; view = s })
 
-      pub pass-stands : x ≡ Stands → (needed : List Bool) (spare : Bool) → length needed ≡ 32 → spare ≡ any not (take (v .len) needed) →
-          ((ds : List plain.Departure) → Reads ds (v .shards) (v .zeros) (v .cuts) (v .len) → take (v .len) needed ≡ zipBy (orHolds (l .local .0) (plainEntry here)) (take (v .len) (r .needed)) ds) →
-          JudgingIn l now (record { stay = set (r .stay) i true; needed = needed; spare = spare; words = r .words; reports = r .reports; fallen = r .fallen }) (i + 1)
+      pub pass-stands : x ≡ Stands → (needed : List Bool) («some_unneeded» : Bool) → length needed ≡ 32 → «some_unneeded» ≡ any not (take (v .len) needed) →
+          ((ds : List plain.Departure) → Columns ds (v .shards) (v .zeros) (v .cuts) (v .len) → take (v .len) needed ≡ zipBy (orHolds (l .local .0) (plainEntry here)) (take (v .len) (r .needed)) ds) →
+          JudgingIn l now (record { stay = set (r .stay) i true; needed = needed; «some_unneeded» = «some_unneeded»; words = r .words; reports = r .reports; fallen = r .fallen }) (i + 1)
       unfolding contents
-      pass-stands e needed spare size o n =
+      pass-stands e needed «some_unneeded» size o n =
           let count = seeing.count (onFile (l .departures)) now v s in
-          turn-stands (stands (contents l) now) (telling l now) (rowOf l now) (holding l now) (entriesOf l) (onFile (l .departures)) file-few r i k entries-few
-          (plainEntry here) (omega (arith, entries-length l h)) (entries-cons l h i q d) needed spare size (λ z. rw count (sym o ∙ z)) (rw e at judgement)
+          turn-stands (stands (contents l) now) (reporting l now) (rowOf l now) (holding l now) (entriesOf l) (onFile (l .departures)) file-few r i k entries-few
+          (plainEntry here) (omega (arith, entries-length l h)) (entries-cons l h i q d) needed «some_unneeded» size (λ z. rw count (sym o ∙ z)) (rw e at judgement)
           (rw count (n (onFile (l .departures)) (record { good = s .good; shards = s .shards; zeros = s .zeros; cuts = s .cuts })))
 
-      pub pass-idle : x ≡ Stands → r .spare ≡ false →
-          JudgingIn l now (record { stay = set (r .stay) i true; needed = r .needed; spare = r .spare; words = r .words; reports = r .reports; fallen = r .fallen }) (i + 1)
+      pub pass-idle : x ≡ Stands → r .«some_unneeded» ≡ false →
+          JudgingIn l now (record { stay = set (r .stay) i true; needed = r .needed; «some_unneeded» = r .«some_unneeded»; words = r .words; reports = r .reports; fallen = r .fallen }) (i + 1)
       pass-idle e o =
-          turn-idle (stands (contents l) now) (telling l now) (rowOf l now) (holding l now) (entriesOf l) (onFile (l .departures)) file-few r i k entries-few
+          turn-idle (stands (contents l) now) (reporting l now) (rowOf l now) (holding l now) (entriesOf l) (onFile (l .departures)) file-few r i k entries-few
           (plainEntry here) (omega (arith, entries-length l h)) (entries-cons l h i q d) o (rw e at judgement)
 
-      pub pass-falls : x ≡ Falls → JudgingIn l now (record { stay = r .stay; needed = r .needed; spare = r .spare; words = r .words; reports = r .reports; fallen = r .fallen + 1 }) (i + 1)
+      pub pass-falls : x ≡ Falls → JudgingIn l now (record { stay = r .stay; needed = r .needed; «some_unneeded» = r .«some_unneeded»; words = r .words; reports = r .reports; fallen = r .fallen + 1 }) (i + 1)
       pass-falls e =
           let j : Says Falls (contents l) now (plainEntry here) = rw e at judgement in
-          turn-falls (stands (contents l) now) (telling l now) (rowOf l now) (holding l now) (entriesOf l) (onFile (l .departures)) file-few r i k entries-few
+          turn-falls (stands (contents l) now) (reporting l now) (rowOf l now) (holding l now) (entriesOf l) (onFile (l .departures)) file-few r i k entries-few
           (plainEntry here) (omega (arith, entries-length l h)) (entries-cons l h i q d) (j .0) (j .1)
 
-      pub pass-told : (covered : ℕ) → x ≡ Told covered →
+      pub pass-reported : (covered : ℕ) → x ≡ Reported covered →
           JudgingIn l now (record {
             stay = r .stay;
             needed = r .needed;
-            spare = r .spare;
+            «some_unneeded» = r .«some_unneeded»;
             words = set (set (set (r .words) (3 * r .reports) (here .tx .0)) (3 * r .reports + 1) covered) (3 * r .reports + 2) (here .charge);
             reports = r .reports + 1;
             fallen = r .fallen + 1;
           }) (i + 1)
       unfolding plainEntry
-      pass-told covered e =
-          let j : Says (Told covered) (contents l) now (plainEntry here) = rw e at judgement in
-          turn-told (stands (contents l) now) (telling l now) (rowOf l now) (holding l now) (entriesOf l) (onFile (l .departures)) file-few r i k entries-few
+      pass-reported covered e =
+          let j : Says (Reported covered) (contents l) now (plainEntry here) = rw e at judgement in
+          turn-reported (stands (contents l) now) (reporting l now) (rowOf l now) (holding l now) (entriesOf l) (onFile (l .departures)) file-few r i k entries-few
           (plainEntry here) (omega (arith, entries-length l h)) (entries-cons l h i q d) (here .tx .0) covered (here .charge) (j .0) (j .1)
           (ap (λ n. here .tx .0 ∷ n ∷ here .charge ∷ []) (j .2))
 
@@ -178,31 +178,31 @@ module _ (l : Ledger) (h : Held l) (now : ℕ) where
       let n = entries-length l h in
       let z : length (entriesOf l) ≤ i = omega (arith, n) in
       let m = file-length (l .departures) (h .departures) in
-      let told = keep (telling l now) (fallen now (contents l)) in
+      let reported = keep (reporting l now) (fallen now (contents l)) in
       record {
-        stay = all-stay (stands (contents l) now) (telling l now) (rowOf l now) (holding l now) (entriesOf l) (onFile (l .departures)) file-few r i k z (l .roster .len) n;
-        needed = rw m at (all-needed (stands (contents l) now) (telling l now) (rowOf l now) (holding l now) (entriesOf l) (onFile (l .departures)) file-few r i k z);
-        words = all-rows (stands (contents l) now) (telling l now) (rowOf l now) (holding l now) (entriesOf l) (onFile (l .departures)) file-few r i k z ∙ rows-reports (reportOf (l .local .0)) told;
-        count = all-count (stands (contents l) now) (telling l now) (rowOf l now) (holding l now) (entriesOf l) (onFile (l .departures)) file-few r i k z ∙ sym (length-map told (reportOf (l .local .0)));
-        fallen = all-gone (stands (contents l) now) (telling l now) (rowOf l now) (holding l now) (entriesOf l) (onFile (l .departures)) file-few r i k z;
+        stay = all-stay (stands (contents l) now) (reporting l now) (rowOf l now) (holding l now) (entriesOf l) (onFile (l .departures)) file-few r i k z (l .roster .len) n;
+        needed = rw m at (all-needed (stands (contents l) now) (reporting l now) (rowOf l now) (holding l now) (entriesOf l) (onFile (l .departures)) file-few r i k z);
+        words = all-rows (stands (contents l) now) (reporting l now) (rowOf l now) (holding l now) (entriesOf l) (onFile (l .departures)) file-few r i k z ∙ rows-reports (reportOf (l .local .0)) reported;
+        count = all-count (stands (contents l) now) (reporting l now) (rowOf l now) (holding l now) (entriesOf l) (onFile (l .departures)) file-few r i k z ∙ sym (length-map reported (reportOf (l .local .0)));
+        fallen = all-gone (stands (contents l) now) (reporting l now) (rowOf l now) (holding l now) (entriesOf l) (onFile (l .departures)) file-few r i k z;
       }
 
   -- The branches.
   module _ (lent : List ℕ) where
     module _ (c : Pruning) (j : Judges l now c) where
-      told-few : length (reports now (contents l)) ≤ 48
+      reported-few : length (reports now (contents l)) ≤ 48
       unfolding contents fallen reports
-      told-few =
+      reported-few =
           omega (
             arith,
-            length-map (keep (telling l now) (fallen now (contents l))) (reportOf (l .local .0)),
-            length-keep (telling l now) (fallen now (contents l)),
+            length-map (keep (reporting l now) (fallen now (contents l))) (reportOf (l .local .0)),
+            length-keep (reporting l now) (fallen now (contents l)),
             length-keep (λ e. not (stands (contents l) now e)) (entriesOf l),
             entries-few,
           )
 
       pub reports-few : c .reports ≤ 48
-      reports-few = omega (arith, j .count, told-few)
+      reports-few = omega (arith, j .count, reported-few)
 
       words-size : length (concatMap reportWords (reports now (contents l))) ≡ 3 * c .reports
       words-size = rows-length (reports now (contents l)) ∙ ap (λ n. 3 * n) (sym (j .count))
@@ -215,7 +215,7 @@ module _ (l : Ledger) (h : Held l) (now : ℕ) where
       prune-refused zero e q = absurd (omega arith)
       prune-refused (suc n) e q = refuses n l lent (pruneRefusal now (length lent) (contents l)) _ (saysNo (suc n) l) h (same-refusal ∙ sym e) refl
 
-      module _ (r : Roster) (k : Kept (l .roster) (take (l .roster .len) (c .stay)) r) (x : Issuers)
+      module _ (r : Roster) (k : Retained (l .roster) (take (l .roster .len) (c .stay)) r) (x : Issuers)
           (i : issuers.Holds (unnamedBy (take (l .roster .len) (c .stay)) (keysOf (l .roster)) (pairsIn (l .issuers))) x) (f : Departures)
           (d : departures.Holds (keepBy (take (l .departures .len) (c .needed)) (onFile (l .departures))) f) where
         abbrev left : List plain.Departure

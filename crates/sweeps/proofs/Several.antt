@@ -27,14 +27,14 @@ use Rattle.entry.specs.declared.Entry.{Entry}
 use Rattle.entry.specs.Entry.{plainEntry, Fits}
 use Rattle.store.specs.declared.roster.Roster.{Roster}
 use Rattle.store.specs.declared.issuers.Issuers.{Issuers}
-use Rattle.store.specs.Roster.{keysOf, slotsOf, Kept}
+use Rattle.store.specs.Roster.{keysOf, slotsOf, Retained}
 use Rattle.store.specs.Issuers as issuers
 use Rattle.store.specs.Issuers.{isNot, pairsIn}
 use Rattle.store.proofs.Rosters.{slot-within}
 use Rattle.ledger.specs.declared.Ledger.{Ledger}
 use Rattle.ledger.specs.Contents.{entryIn, entriesOf, contents, Held}
 use Rattle.ledger.proofs.Lift.{withParts, Became, entries-length, entry-in}
-use Rattle.sweeps.specs.Leaving.{unnamedBy, isGone, goneBy}
+use Rattle.sweeps.specs.Leaving.{unnamedBy, isDropped, droppedBy}
 
 -- filling an array with what f says of each: those from i on are still to come
 module _ {A B : Type 0} (f : A → B) where
@@ -46,7 +46,7 @@ module _ {A B : Type 0} (f : A → B) where
   fill-end out i l h = rw (rest-none l i h) (append-nil (take i out))
 
 -- where nobody is gone, nothing is unnamed
-pub none-gone : (bs : List Bool) (ts : List ℕ) (ps : List Pair) → goneBy bs ts ≡ [] → unnamedBy bs ts ps ≡ ps
+pub none-gone : (bs : List Bool) (ts : List ℕ) (ps : List Pair) → droppedBy bs ts ≡ [] → unnamedBy bs ts ps ≡ ps
 none-gone [] ts ps e = refl
 none-gone (b ∷ bs) [] ps e = refl
 none-gone (true ∷ bs) (t ∷ ts) ps e = none-gone bs ts ps e
@@ -74,7 +74,7 @@ module _ (l : Ledger) (h : Held l) (i : ℕ) (q : i < l .roster .len) (d : Entry
 -- one turn and the end of putting those at the front whose flag is down; those from i on are still to come
 module _ (stay : List Bool) (keys : List ℕ) (i n : ℕ) (h₂ : n ≤ length stay) (h₃ : n ≤ length keys) where
   abbrev coming : ℕ → List ℕ
-  coming j = goneBy (drop j (take n stay)) (drop j (take n keys))
+  coming j = droppedBy (drop j (take n stay)) (drop j (take n keys))
 
   pub front-stays : (all : List ℕ) (xs : List ℕ) → i < n → getD stay i false ≡ true → xs ++ coming i ≡ all → xs ++ coming (i + 1) ≡ all
   front-stays all xs h₁ f e = ap (λ m. xs ++ m) (sym (coming-next h₁ ∙ rw f)) ∙ e
@@ -99,7 +99,7 @@ eqb-swap a b = go (eqb a b) refl
     go false e = e ∙ sym (ne-eqb b a (λ q. eqb-false a b e (sym q)))
 
 -- a transaction is gone if it is among those
-pub gone-among : (bs : List Bool) (ts : List ℕ) (t : ℕ) → isGone bs ts t ≡ has self t (goneBy bs ts)
+pub gone-among : (bs : List Bool) (ts : List ℕ) (t : ℕ) → isDropped bs ts t ≡ has self t (droppedBy bs ts)
 gone-among [] ts t = refl
 gone-among (b ∷ bs) [] t = refl
 gone-among (true ∷ bs) (u ∷ ts) t = gone-among bs ts t
@@ -107,7 +107,7 @@ gone-among (false ∷ bs) (u ∷ ts) t = rw (eqb-swap t u) (ap (λ c. eqb u t ||
 
 -- the pairs that are left are those of transactions that are not gone
 abbrev pub remains : List Bool → List ℕ → Pair → Bool
-remains bs ts q = not (isGone bs ts (q .transaction))
+remains bs ts q = not (isDropped bs ts (q .transaction))
 
 not-either : (a b : Bool) → not a && not b ≡ not (a || b)
 not-either true b = refl
@@ -120,7 +120,7 @@ unnamed-keep (true ∷ bs) (t ∷ ts) ps = unnamed-keep bs ts ps
 unnamed-keep (false ∷ bs) (t ∷ ts) ps =
     unnamed-keep bs ts (keep (isNot t) ps)
     ∙ keep-and (isNot t) (remains bs ts) ps
-    ∙ keep-same (λ q. isNot t q && remains bs ts q) (remains (false ∷ bs) (t ∷ ts)) ps (λ q _. not-either (eqb (q .transaction) t) (isGone bs ts (q .transaction)))
+    ∙ keep-same (λ q. isNot t q && remains bs ts q) (remains (false ∷ bs) (t ∷ ts)) ps (λ q _. not-either (eqb (q .transaction) t) (isDropped bs ts (q .transaction)))
 
 not-not : (b : Bool) → not (not b) ≡ b
 not-not true = refl
@@ -134,12 +134,12 @@ module _ (p : plain.Entry → Bool) where
   abbrev names : List plain.Entry → List ℕ
   names es = map transactionOf es
 
-  gone-below : (t : ℕ) (es : List plain.Entry) → Above transactionOf t es → isGone (flags es) (names es) t ≡ false
+  gone-below : (t : ℕ) (es : List plain.Entry) → Above transactionOf t es → isDropped (flags es) (names es) t ≡ false
   gone-below t [] a = refl
   gone-below t (e ∷ es) a =
       rw (ne-eqb t (transactionOf e) (omega (arith, a .0)), and-false (not (p e))) (gone-below t es (a .1))
 
-  gone-test : (x : plain.Entry) (es : List plain.Entry) → Ascending transactionOf es → List·Memᴰ x es → not (isGone (flags es) (names es) (transactionOf x)) ≡ p x
+  gone-test : (x : plain.Entry) (es : List plain.Entry) → Ascending transactionOf es → List·Memᴰ x es → not (isDropped (flags es) (names es) (transactionOf x)) ≡ p x
   gone-test x (e ∷ es) a (List·Memᴰ·head q) =
       rw (q, eq-eqb (transactionOf e) (transactionOf e) refl, and-true (not (p e)), gone-below (transactionOf e) es (a .0), or-false (not (p e))) (not-not (p e))
   gone-test x (e ∷ es) a (List·Memᴰ·tail m) =
@@ -156,12 +156,12 @@ module _ (p : plain.Entry → Bool) where
         pairs = i .pairs
             ∙ rw (q, h .keyed, h .issuers .pairs)
             (unnamed-keep (flags es) (names es) (indexOf (l .local .0) es)
-            ∙ indexOf-keep (l .local .0) (λ t. not (isGone (flags es) (names es) t)) es (good-words (h .good))
-            ∙ ap (indexOf (l .local .0)) (keep-same (λ e. not (isGone (flags es) (names es) (transactionOf e))) p es (λ y m. gone-test y es (h .good .entryOrder) m)));
+            ∙ indexOf-keep (l .local .0) (λ t. not (isDropped (flags es) (names es) t)) es (good-words (h .good))
+            ∙ ap (indexOf (l .local .0)) (keep-same (λ e. not (isDropped (flags es) (names es) (transactionOf e))) p es (λ y m. gone-test y es (h .good .entryOrder) m)));
       }
 
   -- those kept, their roster and their index
-  pub kept-all : (l : Ledger) → Held l → (bs : List Bool) (r : Roster) (ix : Issuers) → bs ≡ map p (entriesOf l) → Kept (l .roster) bs r →
+  pub kept-all : (l : Ledger) → Held l → (bs : List Bool) (r : Roster) (ix : Issuers) → bs ≡ map p (entriesOf l) → Retained (l .roster) bs r →
       issuers.Holds (indexOf (l .local .0) (keep p (entriesOf l))) ix → Good (withEntries (keep p (contents l .entries)) (contents l)) →
       Became (withEntries (keep p (contents l .entries)) (contents l)) (withParts l r (l .entries) ix)
   unfolding contents index

@@ -12,7 +12,7 @@ use Rattle.store.specs.declared.issuers.Issuers.{Issuers}
 use Rattle.store.specs.declared.departures.Departures.{Departures}
 use Rattle.store.specs.Issuers.{isNot}
 use Rattle.ledger.specs.declared.Ledger.{Ledger}
-use Rattle.sweeps.specs.declared.leaving.Gone.{Gone}
+use Rattle.sweeps.specs.declared.leaving.Dropped.{Dropped}
 
 -- the pairs without those of each transaction whose flag is down
 abbrev pub unnamedBy : List Bool → List ℕ → List Pair → List Pair
@@ -21,19 +21,19 @@ unnamedBy (b ∷ bs) [] ps = ps
 unnamedBy (b ∷ bs) (t ∷ ts) ps = unnamedBy bs ts (cond b ps (keep (isNot t) ps))
 
 -- whether the transaction is one of those, with its flag down
-abbrev pub isGone : List Bool → List ℕ → ℕ → Bool
-isGone [] ts t = false
-isGone (b ∷ bs) [] t = false
-isGone (b ∷ bs) (u ∷ ts) t = not b && eqb t u || isGone bs ts t
+abbrev pub isDropped : List Bool → List ℕ → ℕ → Bool
+isDropped [] ts t = false
+isDropped (b ∷ bs) [] t = false
+isDropped (b ∷ bs) (u ∷ ts) t = not b && eqb t u || isDropped bs ts t
 
 -- those transactions
-abbrev pub goneBy : List Bool → List ℕ → List ℕ
-goneBy [] ts = []
-goneBy (b ∷ bs) [] = []
-goneBy (b ∷ bs) (t ∷ ts) = cond b (goneBy bs ts) (t ∷ goneBy bs ts)
+abbrev pub droppedBy : List Bool → List ℕ → List ℕ
+droppedBy [] ts = []
+droppedBy (b ∷ bs) [] = []
+droppedBy (b ∷ bs) (t ∷ ts) = cond b (droppedBy bs ts) (t ∷ droppedBy bs ts)
 
 -- they stand at the front
-pub record Fronts (ts : List ℕ) (g : Gone) : Type 0 where
+pub record Fronts (ts : List ℕ) (g : Dropped) : Type 0 where
   pub room : g .len ≤ 48
   pub size : length (g .transactions) ≡ 48
   pub front : take (g .len) (g .transactions) ≡ ts

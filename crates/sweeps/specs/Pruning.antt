@@ -31,7 +31,7 @@ abbrev pub orHolds : ℕ → Entry → Bool → Departure → Bool
 orHolds local e b d = b || holds local d e
 
 -- the first n numbers of each array are the departures', in order
-pub record Reads (ds : List Departure) (ss zs cs : List ℕ) (n : ℕ) : Type 0 where
+pub record Columns (ds : List Departure) (ss zs cs : List ℕ) (n : ℕ) : Type 0 where
   pub good : Every GoodDeparture ds
   pub shards : take n ss ≡ map shardOf ds
   pub zeros : take n zs ≡ map zerosOf ds
@@ -39,7 +39,7 @@ pub record Reads (ds : List Departure) (ss zs cs : List ℕ) (n : ℕ) : Type 0 
 
 -- nothing judged yet
 abbrev pub begun : Pruning
-begun = record { stay = replicate 48 false; needed = replicate 32 false; spare = true; words = replicate 144 0; reports = 0; fallen = 0 }
+begun = record { stay = replicate 48 false; needed = replicate 32 false; «some_unneeded» = true; words = replicate 144 0; reports = 0; fallen = 0 }
 
 -- who stays, which departures remain, the words of the reports, how many reports and how many fall
 pub record Judges (l : Ledger) (now : ℕ) (r : Pruning) : Type 0 where

@@ -10,7 +10,7 @@ ghost use Rattle.ledger.specs.Contents.{Held, contents};
 ghost use Rattle.ledger.specs.Meets.{Meets};
 ghost use Rattle.sweeps.specs.Leaving.{listedBy, having};
 ghost use Rattle.sweeps.specs.Closing.{Judges, Listable, put};
-use crate::leaving::without_all;
+use crate::leaving::without_dropped;
 use ledger::Done;
 use ledger::Ledger;
 use store::issuers::Issuers;
@@ -58,7 +58,7 @@ pub struct Closed {
 }
 
 // What was judged carried out, unless the lent list is too short: of any ledger that has these parts and was judged so.
-fn carried_out(c: Closing, roster: Roster, issuers: Issuers, lent: &mut [u64]) -> Closed
+fn apply_closing(c: Closing, roster: Roster, issuers: Issuers, lent: &mut [u64]) -> Closed
     requires { ⌜ Listable c roster issuers ⌝ }
     ensures { λ r. ⌜ ((l : Ledger) → Held (having l roster issuers (l .departures)) → Judges (having l roster issuers (l .departures)) c → Meets (afterCloses (length (now (lent .entry))) (contents (having l roster issuers (l .departures)))) (now (lent .entry)) (now (lent .exit)) (put l r)) ⌝ }
 {
@@ -77,8 +77,8 @@ fn carried_out(c: Closing, roster: Roster, issuers: Issuers, lent: &mut [u64]) -
     Closed {
         refused: 0,
         answer: c.count,
-        roster: roster.kept(stay),
-        issuers: without_all(issuers, roster, stay),
+        roster: roster.retain(stay),
+        issuers: without_dropped(issuers, roster, stay),
     }
 }
 
@@ -109,7 +109,7 @@ pub fn closes(mut ledger: Ledger, lent: &mut [u64]) -> Done
             i += 1;
         }
     }
-    let closed = carried_out(c, roster, ledger.issuers, lent);
+    let closed = apply_closing(c, roster, ledger.issuers, lent);
     let left = closed.roster;
     let unnamed = closed.issuers;
     ledger.roster = left;

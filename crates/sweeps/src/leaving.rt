@@ -3,21 +3,21 @@ ghost use lib.ListN.{take};
 ghost use Rattle.store.specs.Roster as rosters;
 ghost use Rattle.store.specs.Roster.{keysOf};
 ghost use Rattle.store.specs.Issuers.{Sound, Holds, pairsIn};
-ghost use Rattle.sweeps.specs.Leaving.{unnamedBy, goneBy, Fronts};
+ghost use Rattle.sweeps.specs.Leaving.{unnamedBy, droppedBy, Fronts};
 use store::issuers::Issuers;
 use store::roster::Roster;
 use words::slices::contains;
 
 // Transactions at the front of an array.
-pub struct Gone {
+pub struct Dropped {
     pub transactions: [u64; 48],
     pub len: usize,
 }
 
 // Those whose flag is down.
-fn gone_from(roster: Roster, stay: [bool; 48]) -> Gone
+fn dropped_from(roster: Roster, stay: [bool; 48]) -> Dropped
     requires { ⌜ rosters.Sound roster ⌝ }
-    ensures { λ r. ⌜ Fronts (goneBy (take (roster .len) stay) (keysOf roster)) r ⌝ }
+    ensures { λ r. ⌜ Fronts (droppedBy (take (roster .len) stay) (keysOf roster)) r ⌝ }
 {
     let n = roster.len;
     let mut transactions = [0u64; 48];
@@ -32,16 +32,16 @@ fn gone_from(roster: Roster, stay: [bool; 48]) -> Gone
             i += 1;
         }
     }
-    Gone { transactions, len }
+    Dropped { transactions, len }
 }
 
 // The index without the pairs of those whose flag is down. Few leave at a time, so each pair is looked for among them; mostly nobody
 // does, and the index is not gone through.
-pub fn without_all(issuers: Issuers, roster: Roster, stay: [bool; 48]) -> Issuers
+pub fn without_dropped(issuers: Issuers, roster: Roster, stay: [bool; 48]) -> Issuers
     requires { ⌜ Sound issuers × rosters.Sound roster ⌝ }
     ensures { λ x. ⌜ Holds (unnamedBy (take (roster .len) stay) (keysOf roster) (pairsIn issuers)) x ⌝ }
 {
-    let gone = gone_from(roster, stay);
+    let gone = dropped_from(roster, stay);
     let transactions = gone.transactions;
     let m = gone.len;
     if m == 0 {
@@ -54,5 +54,5 @@ pub fn without_all(issuers: Issuers, roster: Roster, stay: [bool; 48]) -> Issuer
         named[i] = !contains(&transactions[0..m], issuers.transactions[i]);
         i += 1;
     }
-    issuers.kept(named)
+    issuers.retain(named)
 }

@@ -14,8 +14,8 @@ ghost use Rattle.ledger.specs.declared.Ledger.{Ledger};
 ghost use Rattle.ledger.specs.Contents.{Held, contents};
 ghost use Rattle.ledger.specs.Meets.{Meets};
 ghost use Rattle.sweeps.specs.Leaving.{having};
-ghost use Rattle.sweeps.specs.Pruning.{orHolds, Reads, begun, Judges, refusalBy, Prunable, put};
-use crate::leaving::without_all;
+ghost use Rattle.sweeps.specs.Pruning.{orHolds, Columns, begun, Judges, refusalBy, Prunable, put};
+use crate::leaving::without_dropped;
 use entry::Entry;
 use judge::routes::needs;
 use judge::verdicts::Verdict;
@@ -35,7 +35,7 @@ use types::is_time;
 pub struct Pruning {
     pub stay: [bool; 48],
     pub needed: [bool; 32],
-    pub spare: bool,
+    pub some_unneeded: bool,
     pub words: [u64; 144],
     pub reports: usize,
     pub fallen: u64,
@@ -48,7 +48,7 @@ impl Pruning {
         Pruning {
             stay: [false; 48],
             needed: [false; 32],
-            spare: true,
+            some_unneeded: true,
             words: [0u64; 144],
             reports: 0,
             fallen: 0,
@@ -69,7 +69,7 @@ fn with_needs<'a>(
     requires { ⌜ Fits e ⌝ }
     requires { ⌜ isShard (local .0) ≡ true ⌝ }
     requires { ⌜ (n ≤ 32) × (length (now shards) ≡ 32) × (length (now zeros) ≡ 32) × (length (now cuts) ≡ 32) × Every (λ z. z < 64) (now zeros) ⌝ }
-    ensures { λ r. ⌜ ((ds : List plain.Departure) → Reads ds (now (shards .entry)) (now (zeros .entry)) (now (cuts .entry)) n → take n r ≡ zipBy (orHolds (local .0) (plainEntry e)) (take n flags) ds) ⌝ }
+    ensures { λ r. ⌜ ((ds : List plain.Departure) → Columns ds (now (shards .entry)) (now (zeros .entry)) (now (cuts .entry)) n → take n r ≡ zipBy (orHolds (local .0) (plainEntry e)) (take n flags) ds) ⌝ }
 {
     let mut out = flags;
     let mut j: usize = 0;
@@ -133,7 +133,7 @@ pub struct Pruned {
 }
 
 // What was judged carried out, unless the prune is turned away: of any ledger that has these parts and was judged so.
-fn carried_out(
+fn apply_pruning(
     p: Pruning,
     roster: Roster,
     issuers: Issuers,
@@ -163,9 +163,9 @@ fn carried_out(
         refused: 0,
         answer: p.reports as u64,
         fallen: p.fallen,
-        roster: roster.kept(stay),
-        issuers: without_all(issuers, roster, stay),
-        departures: departures.kept(needed),
+        roster: roster.retain(stay),
+        issuers: without_dropped(issuers, roster, stay),
+        departures: departures.retain(needed),
     }
 }
 
@@ -198,13 +198,13 @@ pub fn prune(mut ledger: Ledger, time: Time, lent: &mut [u64]) -> Done
         match verdict {
             Verdict::Stands => {
                 p.stay[i] = true;
-                if p.spare {
+                if p.some_unneeded {
                     p.needed = with_needs(p.needed, e, local, &v.shards, &v.zeros, &v.cuts, v.len);
-                    p.spare = some_down(p.needed, v.len);
+                    p.some_unneeded = some_down(p.needed, v.len);
                 }
             }
             Verdict::Falls => p.fallen += 1,
-            Verdict::Told(covered) => {
+            Verdict::Reported(covered) => {
                 let at = 3 * p.reports;
                 p.words[at] = e.tx.0;
                 p.words[at + 1] = covered;
@@ -215,7 +215,7 @@ pub fn prune(mut ledger: Ledger, time: Time, lent: &mut [u64]) -> Done
         }
         i += 1;
     }
-    let done = carried_out(p, roster, ledger.issuers, ledger.departures, time, lent);
+    let done = apply_pruning(p, roster, ledger.issuers, ledger.departures, time, lent);
     let left = done.roster;
     let unnamed = done.issuers;
     let remaining = done.departures;

@@ -12,7 +12,7 @@ use Rattle.rules.specs.Entries.{entry}
 
 -- transaction, at, end, anchor and charge stand from a place on
 abbrev pub bareEntry : Part → ℕ → List ℕ → List ℕ → ℕ → ℕ → Entry
-bareEntry part at ws routes certificate naming = entry part (groupTerms (drop at ws) routes) certificate naming
+bareEntry part at ws routes certificate departedBy = entry part (groupTerms (drop at ws) routes) certificate departedBy
 
 abbrev pub withTerms : Terms → Entry → Entry
 withTerms t e =
@@ -20,7 +20,7 @@ withTerms t e =
       terms = t;
       part = e .part;
       certificate = e .certificate;
-      naming = e .naming;
+      departedBy = e .departedBy;
       absences = e .absences;
       marks = e .marks;
       returned = e .returned;

@@ -33,10 +33,10 @@ pub fn bare(
     routes: &[u64],
     part: Part,
     certified: u8,
-    naming: Shard,
+    departed_by: Shard,
 ) -> Entry
     requires { ⌜ (at ≤ length (now words)) × (length (now routes) ≤ 8) ⌝ }
-    ensures { λ r. ⌜ Means (bareEntry (plainPart part) at (now (words .entry)) (now (routes .entry)) certified (naming .0)) r ⌝ }
+    ensures { λ r. ⌜ Means (bareEntry (plainPart part) at (now (words .entry)) (now (routes .entry)) certified («departed_by» .0)) r ⌝ }
 {
     let held = copy8(routes);
     let count = routes.len() as u8;
@@ -46,7 +46,7 @@ pub fn bare(
         end: Time(word_at(words, at + 2)),
         anchor: Time(word_at(words, at + 3)),
         charge: word_at(words, at + 4),
-        naming,
+        departed_by,
         part,
         certified,
         returned: false,

@@ -9,7 +9,7 @@ use native.Mathlib.Omega.{arith}
 use lib.ListN.{length}
 use Rattle.script.specs.Lines.{Within}
 use Rattle.ledger.specs.Contents.{Held}
-use Rattle.replay.proofs.Said.{changed-held}
+use Rattle.replay.proofs.Replied.{changed-held}
 use Rattle.replay.proofs.main.Statement.{statement}
 use Rattle.replay.proofs.main.Tie as tie
 

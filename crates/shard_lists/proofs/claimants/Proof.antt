@@ -23,15 +23,15 @@ enum-known-k c = search needs
 enum-told : tie.Need-enum-told
 enum-told c = search needs
 
-told-requires : tie.Need-told-requires
-told-requires c κs = search needs
+answer-requires : tie.Need-answer-requires
+answer-requires c κs = search needs
 
 returns : tie.Need-returns
 unfolding claimants contents
 returns c =
     let s = c .before .before .before .before .before .before in
     let a = s .args in
-    not-owed (a .t1) (s .pre) (a .tx .0) (a .lent .now) (claimantsOf (a .t1 .local .0) (a .r .0)) 0 refl _ (sym (c .before .before .before .find .ensures) ∙ c .before .enum-told .given .1) (c .told .ensures)
+    not-owed (a .t1) (s .pre) (a .tx .0) (a .lent .now) (claimantsOf (a .t1 .local .0) (a .r .0)) 0 refl _ (sym (c .before .before .before .find .ensures) ∙ c .before .enum-told .given .1) (c .answer .ensures)
 
 mul-slot : tie.Need-mul-slot
 mul-slot c = omega (arith, there (c .before) .place)
@@ -74,7 +74,7 @@ claimants-spec =
     find-requires
     enum-known-k
     enum-told
-    told-requires
+    answer-requires
     returns
     mul-slot
     element-copy-out-slot

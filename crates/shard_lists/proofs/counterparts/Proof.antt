@@ -32,14 +32,14 @@ enum-known-k c = search needs
 enum-told : tie.Need-enum-told
 enum-told c = search needs
 
-told-requires : tie.Need-told-requires
-told-requires c κs = search needs
+answer-requires : tie.Need-answer-requires
+answer-requires c κs = search needs
 
 returns-2 : tie.Need-returns-2
 returns-2 c =
     let s = c .before .before .before .before .before .before .before in
     let a = s .args in
-    no-counterparts (a .t1) (s .pre) (a .tx .0) (a .depth) (a .lent .now) _ (omega arith) (sym (c .before .before .before .find .ensures) ∙ c .before .enum-told .given .1) (c .told .ensures)
+    no-counterparts (a .t1) (s .pre) (a .tx .0) (a .depth) (a .lent .now) _ (omega arith) (sym (c .before .before .before .find .ensures) ∙ c .before .enum-told .given .1) (c .answer .ensures)
 
 mul-slot : tie.Need-mul-slot
 mul-slot c = omega (arith, there (c .before) .place)
@@ -89,7 +89,7 @@ counterparts-spec =
     find-requires
     enum-known-k
     enum-told
-    told-requires
+    answer-requires
     returns-2
     mul-slot
     element-copy-out-slot

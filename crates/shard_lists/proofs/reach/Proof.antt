@@ -23,13 +23,13 @@ enum-known-k c = search needs
 enum-told : tie.Need-enum-told
 enum-told c = search needs
 
-told-requires : tie.Need-told-requires
-told-requires c κs = search needs
+answer-requires : tie.Need-answer-requires
+answer-requires c κs = search needs
 
 returns : tie.Need-returns
 returns c =
     let s = c .before .before .before .before .before .before in
-    not-owed (s .args .t1) (s .pre) (s .args .tx .0) (s .args .lent .now) (λ (e : plain.Entry). e .terms .routes) 0 refl _ (sym (c .before .before .before .find .ensures) ∙ c .before .enum-told .given .1) (c .told .ensures)
+    not-owed (s .args .t1) (s .pre) (s .args .tx .0) (s .args .lent .now) (λ (e : plain.Entry). e .terms .routes) 0 refl _ (sym (c .before .before .before .find .ensures) ∙ c .before .enum-told .given .1) (c .answer .ensures)
 
 mul-slot : tie.Need-mul-slot
 mul-slot c = omega (arith, there (c .before) .place)
@@ -70,7 +70,7 @@ reach-spec =
     find-requires
     enum-known-k
     enum-told
-    told-requires
+    answer-requires
     returns
     mul-slot
     element-copy-out-slot

@@ -138,8 +138,8 @@ mul-old c = omega (arith, there (c .before .before) .slot)
 element-copy-out-old : tie.Need-element-copy-out-old Inv-loop μ-loop
 element-copy-out-old c = there (c .before .before) .slot
 
-with-naming-requires : tie.Need-with-naming-requires Inv-loop μ-loop
-with-naming-requires c κs = there (c .before .before .before) .fits _
+with-departed-by-requires : tie.Need-with-departed-by-requires Inv-loop μ-loop
+with-departed-by-requires c κs = there (c .before .before .before) .fits _
 
 mul-t30 : tie.Need-mul-t30 Inv-loop μ-loop
 mul-t30 c = omega (arith, there (c .before .before .before .before) .slot)
@@ -159,7 +159,7 @@ loop-again c =
     rw (k .before .before .before .before .before .size-at .ensures)
     (goes-on (w .before .before .before .before .refusal .result) (s .args .t1) _ _ _ (stands w .none)
     (group-owed (s .args .t1) (s .args .words .now) (stands w .passed) (o .ledger) (o .at) (o .rebuilt) (o .i) (stands w .so) (stands w .group) (k .before .before .before .before .before .before .group .result) (k .before .before .before .before .before .before .group .ensures)
-    (k .k .given .0 .0) _ (c .with-naming .result) (sym (k .before .before .find .ensures) ∙ k .k .given .1) (rw (w .before .before .word-at .ensures) at (c .with-naming .ensures))))
+    (k .k .given .0 .0) _ (c .with-departed-by .result) (sym (k .before .before .find .ensures) ∙ k .k .given .1) (rw (w .before .before .word-at .ensures) at (c .with-departed-by .ensures))))
 
 enum-told : tie.Need-enum-told Inv-loop μ-loop
 enum-told c = search needs
@@ -173,8 +173,8 @@ element-copy-out-slot-2 c = omega (arith, room c)
 rank-requires : tie.Need-rank-requires Inv-loop μ-loop
 rank-requires c κs = stands (c .before .before .before .before .before .before .before .before) .so .held .roster
 
-opened-requires : tie.Need-opened-requires Inv-loop μ-loop
-opened-requires c κs =
+insert-at-requires : tie.Need-insert-at-requires Inv-loop μ-loop
+insert-at-requires c κs =
     let w = c .before .before .before .before .before .before .before .before .before in
     (stands w .so .held .roster, omega (arith, c .rank .ensures, ranks-within (w .before .loop .ledger) (stands w .so .held) (c .before .before .before .before .before .before .before .before .group .result .tx .0)), room (c .before .before))
 
@@ -200,7 +200,7 @@ loop-again-2 c =
     rw (e .before .before .before .before .before .size-at .ensures)
     (goes-on (w .before .before .before .before .refusal .result) (s .args .t1) _ _ _ (stands w .none)
     (group-new (s .args .t1) (s .args .words .now) (stands w .passed) (o .ledger) (o .at) (o .rebuilt) (o .i) (stands w .so) (stands w .group) (e .before .before .before .before .before .before .group .result) (e .before .before .before .before .before .before .group .ensures)
-    words (c .before .rank .result) (c .opened .result) (sym (e .before .before .find .ensures) ∙ e .enum-told .given .1) (c .before .rank .ensures) (c .opened .ensures)))
+    words (c .before .rank .result) (c .insert-at .result) (sym (e .before .before .find .ensures) ∙ e .enum-told .given .1) (c .before .rank .ensures) (c .insert-at .ensures)))
 
 capped-requires : tie.Need-capped-requires Inv-loop μ-loop
 capped-requires c κs = search needs
@@ -237,7 +237,7 @@ record-abandonment-spec =
     element-copy-out-slot
     mul-old
     element-copy-out-old
-    with-naming-requires
+    with-departed-by-requires
     mul-t30
     element-set-from-ledger
     loop-less
@@ -246,7 +246,7 @@ record-abandonment-spec =
     mul-slot-2
     element-copy-out-slot-2
     rank-requires
-    opened-requires
+    insert-at-requires
     mul-e
     element-set-from-e
     add-rebuilt

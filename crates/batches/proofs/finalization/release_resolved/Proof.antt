@@ -13,7 +13,7 @@ use Rattle.ledger.specs.declared.Ledger.{Ledger}
 use Rattle.ledger.proofs.Lift.{AtSlot, found-at}
 use Rattle.batches.specs.declared.finalization.Ruling.the-variants.{Skip, Refused}
 use Rattle.batches.proofs.Going.{Going, starts, turning, goes-on}
-use Rattle.batches.proofs.Resolving.{Resolving, resolving, formed, resolves, line-unknown, line-leave, line-turn, line-release}
+use Rattle.batches.proofs.Resolving.{Resolving, resolving, formed, resolves, line-unknown, line-leave, line-resolve, line-release}
 use borrow.Author.Needs.{needs}
 use Rattle.batches.proofs.finalization.release_resolved.Statement.{statement}
 use Rattle.batches.proofs.finalization.release_resolved.Tie as tie
@@ -158,8 +158,8 @@ loop-again-2 c = leaves (c .before .before) (inl (c .enum-told2 .given .1))
 enum-told-3 : tie.Need-enum-told-3 Inv-loop μ-loop
 enum-told-3 c = search needs
 
-turned-requires : tie.Need-turned-requires Inv-loop μ-loop
-turned-requires c κs = there (c .before .before .before .before .before .before .before) .fits _
+resolve-requires : tie.Need-resolve-requires Inv-loop μ-loop
+resolve-requires c κs = there (c .before .before .before .before .before .before .before) .fits _
 
 mul-t32 : tie.Need-mul-t32 Inv-loop μ-loop
 mul-t32 c = omega (arith, there (c .before .before .before .before .before .before .before .before) .slot)
@@ -178,14 +178,14 @@ loop-again-3 c =
     let a = s .before .before .before .args in
     let k = c .before .before .before .before .before .before .before .before in
     goes-on (s .before .refusal .result) (a .t1) _ _ _ (stands w .none)
-    (line-turn (a .t1) (a .words .now) (stands w .formed) (o .ledger) (o .released) (o .i) (stands w .so) (stands w .line) (k .k .given .0 .0) _
-    (sym (k .before .before .find .ensures) ∙ k .k .given .1) (s .items-of .result) (stands w .lines) (c .before .before .before .rule .result) (c .before .before .before .rule .ensures) (c .before .enum-told3 .given .1) (c .turned .result) (c .turned .ensures))
+    (line-resolve (a .t1) (a .words .now) (stands w .formed) (o .ledger) (o .released) (o .i) (stands w .so) (stands w .line) (k .k .given .0 .0) _
+    (sym (k .before .before .find .ensures) ∙ k .k .given .1) (s .items-of .result) (stands w .lines) (c .before .before .before .rule .result) (c .before .before .before .rule .ensures) (c .before .enum-told3 .given .1) (c .resolve .result) (c .resolve .ensures))
 
 enum-told-4 : tie.Need-enum-told-4 Inv-loop μ-loop
 enum-told-4 c = search needs
 
-closed-requires : tie.Need-closed-requires Inv-loop μ-loop
-closed-requires c κs = (stands (c .before .before .before .before .before .before .before .before .before .before .before .before .before .before) .so .held .roster, there (c .before .before .before .before .before .before .before .before) .place)
+remove-at-requires : tie.Need-remove-at-requires Inv-loop μ-loop
+remove-at-requires c κs = (stands (c .before .before .before .before .before .before .before .before .before .before .before .before .before .before) .so .held .roster, there (c .before .before .before .before .before .before .before .before) .place)
 
 without-requires : tie.Need-without-requires Inv-loop μ-loop
 without-requires c κs = stands (c .before .before .before .before .before .before .before .before .before .before .before .before .before .before .before) .so .held .issuers .sound
@@ -205,7 +205,7 @@ loop-again-4 c =
     let k = c .before .before .before .before .before .before .before .before .before .before in
     goes-on (s .before .refusal .result) (a .t1) _ _ _ (stands w .none)
     (line-release (a .t1) (a .words .now) (stands w .formed) (o .ledger) (o .released) (o .i) (stands w .so) (stands w .line) (k .k .given .0 .0) _
-    (sym (k .before .before .find .ensures) ∙ k .k .given .1) (s .items-of .result) (stands w .lines) (c .before .before .before .before .before .rule .result) (c .before .before .before .before .before .rule .ensures) (c .before .before .before .enum-told4 .given .1) (c .before .closed .result) (c .without .result) (c .before .closed .ensures) (c .without .ensures))
+    (sym (k .before .before .find .ensures) ∙ k .k .given .1) (s .items-of .result) (stands w .lines) (c .before .before .before .before .before .rule .result) (c .before .before .before .before .before .rule .ensures) (c .before .before .before .enum-told4 .given .1) (c .before .remove-at .result) (c .without .result) (c .before .remove-at .ensures) (c .without .ensures))
 
 enum-told-5 : tie.Need-enum-told-5 Inv-loop μ-loop
 enum-told-5 c = search needs
@@ -255,13 +255,13 @@ release-resolved-spec =
     loop-less-2
     loop-again-2
     enum-told-3
-    turned-requires
+    resolve-requires
     mul-t32
     element-set-from-ledger
     loop-less-3
     loop-again-3
     enum-told-4
-    closed-requires
+    remove-at-requires
     without-requires
     add-released
     loop-less-4

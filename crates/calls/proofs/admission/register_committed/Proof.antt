@@ -96,8 +96,8 @@ rank-requires c κs =
     let r = c .before .before .before .before .before .before in
     r .before .before .before .before .before .pre .roster
 
-opened-requires : tie.Need-opened-requires
-opened-requires c κs =
+insert-at-requires : tie.Need-insert-at-requires
+insert-at-requires c κs =
     let n = c .before .before .before .before in
     let r = n .before .before .before in
     let f = r .before in
@@ -147,7 +147,7 @@ returns c =
     let t = a .admission-transaction .ensures in
     unrefused _ 1 _ _ [] [] (omega arith)
     (admits (s .args .t1) (s .pre) (s .args .words .now) (f .find .result) (says f) (r .refusal .result) (r .refusal .ensures) (omega arith) (n .enum-told .given .1) (x .admitted .result) (x .admitted .ensures) (are-words (a .before .before))
-    (k .rank .result) (k .rank .ensures ∙ ap (λ t. rank (below t) (keysOf (s .args .t1 .roster))) t) (b .opened .result) (rw t at (b .opened .ensures)) (c .name-issued .result) (c .name-issued .ensures))
+    (k .rank .result) (k .rank .ensures ∙ ap (λ t. rank (below t) (keysOf (s .args .t1 .roster))) t) (b .insert-at .result) (rw t at (b .insert-at .ensures)) (c .name-issued .result) (c .name-issued .ensures))
 
 pub register-committed-spec : {M : Type 1} → statement M
 register-committed-spec =
@@ -161,7 +161,7 @@ register-committed-spec =
     mul-slot
     element-copy-out-slot
     rank-requires
-    opened-requires
+    insert-at-requires
     name-issued-requires
     mul-e
     element-set-from-e

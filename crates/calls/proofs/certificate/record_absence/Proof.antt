@@ -1,4 +1,4 @@
--- `record_absence` meets its contract: what was looked up is put back, changed as it was heard.
+-- `record_absence` meets its contract: what was looked up is put back, changed as the absence asks.
 -- Assumes nothing.
 use Prim.Native.Nat.{_<_}
 use mathlib.Core.Path.{sym}
@@ -26,8 +26,8 @@ mul-e c = omega (arith, there c)
 element-copy-out-e : tie.Need-element-copy-out-e
 element-copy-out-e c = there c
 
-hear-absence-requires : tie.Need-hear-absence-requires
-hear-absence-requires c κs =
+absence-outcome-requires : tie.Need-absence-outcome-requires
+absence-outcome-requires c κs =
     let o = c .before in
     let s = o .before .before .before in
     let f = sym (o .before .find .ensures) in
@@ -46,7 +46,7 @@ returns c =
     let s = o .before .before .before in
     let f = o .before .find .result in
     rw (o .slot-of .ensures)
-    ((rw (o .slot-of .ensures) at (c .before .hear-absence .ensures)) (s .args .t1) (s .args .tx .0) (looked (s .args .t1) (s .pre) (s .args .tx .0) f (sym (o .before .find .ensures)) _))
+    ((rw (o .slot-of .ensures) at (c .before .absence-outcome .ensures)) (s .args .t1) (s .args .tx .0) (looked (s .args .t1) (s .pre) (s .args .tx .0) f (sym (o .before .find .ensures)) _))
 
 pub record-absence-spec : {M : Type 1} → statement M
 record-absence-spec =
@@ -56,7 +56,7 @@ record-absence-spec =
     slot-of-requires
     mul-e
     element-copy-out-e
-    hear-absence-requires
+    absence-outcome-requires
     mul-f
     element-set-from-f
     returns)

@@ -52,8 +52,8 @@ returns-2 c =
     fated-other (s .args .t1) (s .pre) (s .args .tx .0) (k .k .given .0 .0) _ (sym (k .before .before .find .ensures) ∙ k .k .given .1)
     (sym (c .before .is-leg .ensures) ∙ c .if1 .left)
 
-closed-requires : tie.Need-closed-requires
-closed-requires c κs =
+remove-at-requires : tie.Need-remove-at-requires
+remove-at-requires c κs =
     let k = c .before .before .before .before .before .before in
     (k .before .before .before .before .pre .roster, there k .place)
 
@@ -67,7 +67,7 @@ returns c =
     let k = e .before .before .before .before .before in
     let s = k .before .before .before .before in
     fated-leg (s .args .t1) (s .pre) (s .args .tx .0) (k .k .given .0 .0) _ (sym (k .before .before .find .ensures) ∙ k .k .given .1)
-    (sym (e .before .is-leg .ensures) ∙ e .if1 .taken) (c .before .closed .result) (c .without .result) (c .before .closed .ensures) (c .without .ensures)
+    (sym (e .before .is-leg .ensures) ∙ e .if1 .taken) (c .before .remove-at .result) (c .without .result) (c .before .remove-at .ensures) (c .without .ensures)
 
 pub fated-spec : {M : Type 1} → statement M
 fated-spec =
@@ -80,7 +80,7 @@ fated-spec =
     mul-e
     element-copy-out-e
     is-leg-requires
-    closed-requires
+    remove-at-requires
     without-requires
     enum-told
     returns

@@ -21,8 +21,8 @@ returns-2 c =
     let s = c .before .before .before .before in
     forget-unknown (s .args .ledger) (s .pre) (s .args .tx .0) (sym (c .before .before .find .ensures) ∙ c .enum-told .given .1)
 
-closed-requires : tie.Need-closed-requires
-closed-requires c κs =
+remove-at-requires : tie.Need-remove-at-requires
+remove-at-requires c κs =
     let s = c .before .before .before .before .before .before in
     (s .pre .roster, found-at (s .args .ledger) (s .pre) (s .args .tx .0) (c .before .before .k .given .0 .0) (sym (c .before .before .before .before .find .ensures) ∙ c .before .before .k .given .1) .place)
 
@@ -33,7 +33,7 @@ returns : tie.Need-returns
 returns c =
     let s = c .before .before .before .before .before .before .before .before in
     let k = c .before .before .before .before in
-    forget-owed (s .args .ledger) (s .pre) (s .args .tx .0) (k .k .given .0 .0) (sym (k .before .before .find .ensures) ∙ k .k .given .1) (c .before .closed .result) (c .without .result) (c .before .closed .ensures) (c .without .ensures)
+    forget-owed (s .args .ledger) (s .pre) (s .args .tx .0) (k .k .given .0 .0) (sym (k .before .before .find .ensures) ∙ k .k .given .1) (c .before .remove-at .result) (c .without .result) (c .before .remove-at .ensures) (c .without .ensures)
 
 pub forget-spec : {M : Type 1} → statement M
 forget-spec =
@@ -41,7 +41,7 @@ forget-spec =
     (tie.spec
     find-requires
     enum-known-k
-    closed-requires
+    remove-at-requires
     without-requires
     enum-told
     returns

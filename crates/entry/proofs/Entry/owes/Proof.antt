@@ -29,18 +29,18 @@ mul-t9 c = search needs
 element-copy-out-t12 : tie.Need-element-copy-out-t12 Inv-loop μ-loop
 element-copy-out-t12 c = search needs
 
-element-copy-out-is-debt : tie.Need-element-copy-out-is-debt Inv-loop μ-loop
-element-copy-out-is-debt c = search needs
+element-copy-out-is-owed-edge : tie.Need-element-copy-out-is-owed-edge Inv-loop μ-loop
+element-copy-out-is-owed-edge c = search needs
 
-is-debt-requires : tie.Need-is-debt-requires Inv-loop μ-loop
-is-debt-requires c κs = search needs
+is-owed-edge-requires : tie.Need-is-owed-edge-requires Inv-loop μ-loop
+is-owed-edge-requires c κs = search needs
 
 returns : tie.Need-returns Inv-loop μ-loop
 unfolding plainEntry
 returns c =
     let s = c .before .before .before .before .before .before in
     let l = c .before .before .before .before .before .loop in
-    sym (edges-hit (s .args .t1) (s .pre) (owing (s .args .local .0)) (l .i) (omega arith) (sym (c .before .is-debt .ensures) ∙ c .if1 .taken))
+    sym (edges-hit (s .args .t1) (s .pre) (owing (s .args .local .0)) (l .i) (omega arith) (sym (c .before .is-owed-edge .ensures) ∙ c .if1 .taken))
     ∙ l .inv .1
     ∙ sym (owes-any (s .args .local .0) (plainEntry (s .args .t1) .terms))
 
@@ -54,7 +54,7 @@ loop-again : tie.Need-loop-again Inv-loop μ-loop
 loop-again c =
     let s = c .before .before .before .before .before .before in
     let l = c .before .before .before .before .before .loop in
-    (search needs, edges-miss (s .args .t1) (s .pre) (owing (s .args .local .0)) (l .i) (omega arith) (sym (c .before .is-debt .ensures) ∙ c .if1 .left) ∙ l .inv .1)
+    (search needs, edges-miss (s .args .t1) (s .pre) (owing (s .args .local .0)) (l .i) (omega arith) (sym (c .before .is-owed-edge .ensures) ∙ c .if1 .left) ∙ l .inv .1)
 
 returns-2 : tie.Need-returns-2 Inv-loop μ-loop
 unfolding plainEntry
@@ -73,8 +73,8 @@ owes-spec =
     loop-holds
     mul-t9
     element-copy-out-t12
-    element-copy-out-is-debt
-    is-debt-requires
+    element-copy-out-is-owed-edge
+    is-owed-edge-requires
     returns
     add-i
     loop-less

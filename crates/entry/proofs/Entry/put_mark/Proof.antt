@@ -38,8 +38,8 @@ returns c =
 rank-requires : tie.Need-rank-requires
 rank-requires c κs = search needs
 
-opened-requires : tie.Need-opened-requires
-opened-requires c κs =
+insert-at-requires : tie.Need-insert-at-requires
+insert-at-requires c κs =
     let s = c .before .before .before .before .before .before in
     let a = s .args in
     let new = sym (c .before .before .stands .ensures) ∙ c .before .if2 .left in
@@ -55,7 +55,7 @@ returns-2 c =
     let a = s .args in
     let new = sym (c .before .before .before .before .stands .ensures) ∙ c .before .before .before .if2 .left in
     let room : a .self .«marks_len» < 8 = mark-room (a .self) (a .r .0) (s .pre) new in
-    let put = mark-put (a .self) (a .r .0) (s .pre) _ _ new (c .before .before .rank .ensures) (c .before .opened .ensures) in
+    let put = mark-put (a .self) (a .r .0) (s .pre) _ _ new (c .before .before .rank .ensures) (c .before .insert-at .ensures) in
     let f = s .pre .fits in
     record {
       fits = record {
@@ -74,7 +74,7 @@ returns-2 c =
         to = f .to;
         absentShards = f .absentShards;
         absentKeys = f .absentKeys;
-        marks = c .before .opened .ensures .size;
+        marks = c .before .insert-at .ensures .size;
       };
       plain = rw (back (c .before .before .before .before .before), put);
     }
@@ -82,4 +82,4 @@ returns-2 c =
 pub put-mark-spec : {M : Type 1} → statement M
 put-mark-spec =
     tie.close
-    (tie.spec cast-n stands-requires returns rank-requires opened-requires add-e returns-2)
+    (tie.spec cast-n stands-requires returns rank-requires insert-at-requires add-e returns-2)

@@ -35,17 +35,17 @@ cast-n c = search needs
 rank-absence-requires : tie.Need-rank-absence-requires
 rank-absence-requires c κs = search needs
 
-opened-requires : tie.Need-opened-requires
+insert-at-requires : tie.Need-insert-at-requires
 unfolding plainEntry
-opened-requires c κs =
+insert-at-requires c κs =
     let s = c .before .before .before .before .before .before in
     let a = s .args in
     let new = fresh (c .before .before .before .before) in
     (omega (arith, c .rank-absence .ensures, absence-rank (a .self) (a .shard .0) (a .key) (s .pre)), absence-room (a .self) (a .shard .0) (a .key) (s .pre) new)
 
-opened-requires-2 : tie.Need-opened-requires-2
+insert-at-requires-2 : tie.Need-insert-at-requires-2
 unfolding plainEntry
-opened-requires-2 c κs =
+insert-at-requires-2 c κs =
     let s = c .before .before .before .before .before .before .before in
     let a = s .args in
     let new = fresh (c .before .before .before .before .before) in
@@ -61,7 +61,7 @@ returns-2 c =
     let a = s .args in
     let new = fresh (c .before .before .before .before .before .before .before) in
     let room : a .self .«absences_len» < 8 = absence-room (a .self) (a .shard .0) (a .key) (s .pre) new in
-    let put = absence-put (a .self) (a .shard .0) (a .key) (s .pre) _ _ _ new (c .before .before .before .rank-absence .ensures) (c .before .before .opened .ensures) (c .before .opened2 .ensures) in
+    let put = absence-put (a .self) (a .shard .0) (a .key) (s .pre) _ _ _ new (c .before .before .before .rank-absence .ensures) (c .before .before .insert-at .ensures) (c .before .insert-at2 .ensures) in
     let f = s .pre .fits in
     record {
       fits = record {
@@ -78,8 +78,8 @@ returns-2 c =
         kinds = f .kinds;
         sizes = f .sizes;
         to = f .to;
-        absentShards = c .before .before .opened .ensures .size;
-        absentKeys = c .before .opened2 .ensures .size;
+        absentShards = c .before .before .insert-at .ensures .size;
+        absentKeys = c .before .insert-at2 .ensures .size;
         marks = f .marks;
       };
       plain = rw put;
@@ -93,7 +93,7 @@ with-absence-spec =
     returns
     cast-n
     rank-absence-requires
-    opened-requires
-    opened-requires-2
+    insert-at-requires
+    insert-at-requires-2
     add-e
     returns-2)

@@ -15,11 +15,11 @@ reaches-beyond-requires c κs = search needs
 cast-n : tie.Need-cast-n
 cast-n c = search needs
 
-answers-yet-requires : tie.Need-answers-yet-requires
-answers-yet-requires c κs = search needs
+is-answerable-requires : tie.Need-is-answerable-requires
+is-answerable-requires c κs = search needs
 
-told-requires : tie.Need-told-requires
-told-requires c κs = search needs
+reported-unless-requires : tie.Need-reported-unless-requires
+reported-unless-requires c κs = search needs
 
 returns : tie.Need-returns
 unfolding plainEntry
@@ -28,23 +28,23 @@ returns c p l faces =
     let e = plainEntry (s .e) in
     let certified = lt-ltb 0 (s .e .certified) (c .before .before .before .before .before .before .before .if1 .taken) in
     let beyond = sym (c .before .before .before .before .before .before .reaches-beyond .ensures) ∙ c .before .before .before .before .before .if2 .taken in
-    let told = c .before .answers-yet .ensures (p .departures) (s .time .0) e (faces .view) (record { routes = refl; anchor = refl }) in
-    c .told .ensures ∙ by-answering p (s .time .0) e (s .local .0) (faces .local) _ certified beyond told
+    let overBy = c .before .is-answerable .ensures (p .departures) (s .time .0) e (faces .view) (record { routes = refl; anchor = refl }) in
+    c .reported-unless .ensures ∙ by-answering p (s .time .0) e (s .local .0) (faces .local) _ certified beyond overBy
 
-add-quiet : tie.Need-add-quiet
-add-quiet c =
+add-quiet-unless : tie.Need-add-quiet-unless
+add-quiet-unless c =
     let s = c .before .before .before in
     record { fits = sum-fits (s .args .e .at .0) (s .args .validity) (s .pre .1 .1 .0) (s .pre .1 .1 .1 .0) }
 
-quiet-requires : tie.Need-quiet-requires
-quiet-requires c κs = search needs
+quiet-unless-requires : tie.Need-quiet-unless-requires
+quiet-unless-requires c κs = search needs
 
 returns-2 : tie.Need-returns-2
 unfolding plainEntry
 returns-2 c p l faces =
     let s = c .before .before .before .before .before .args in
     let e = plainEntry (s .e) in
-    c .quiet .ensures
+    c .quiet-unless .ensures
     ∙ ⊎-elim
     (λ w. by-no-remote p (s .time .0) e (s .local .0) (faces .local) (s .validity) (faces .validity) (sym (w .1 .ensures) ∙ w .2 .left))
     (λ w. by-no-certificate p (s .time .0) e (s .local .0) (faces .local) (s .validity) (faces .validity) (le-ltb 0 (s .e .certified) (w .left)))
@@ -56,9 +56,9 @@ by-routes-spec =
     (tie.spec
     reaches-beyond-requires
     cast-n
-    answers-yet-requires
-    told-requires
+    is-answerable-requires
+    reported-unless-requires
     returns
-    add-quiet
-    quiet-requires
+    add-quiet-unless
+    quiet-unless-requires
     returns-2)

@@ -10,8 +10,8 @@ use Rattle.lists.proofs.Counting.{filled-zip}
 use Rattle.entry.specs.Entry.{plainEntry, plainPart, absence}
 use Rattle.rules.specs.Plain.{isSettling}
 use Rattle.rules.specs.Prune.{settling, recorded, standsBy}
-use Rattle.judge.specs.Verdict.{Says, unlessTold, unlessQuiet}
-use Rattle.judge.proofs.Judging.{sum-fits, first-test, second-test, rule-1, rule-2, rule-3, rule-4-or-5, says-quiet, says-told, says-routes}
+use Rattle.judge.specs.Verdict.{Says, reportedUnless, quietUnless}
+use Rattle.judge.proofs.Judging.{sum-fits, first-test, second-test, rule-1, rule-2, rule-3, rule-4-or-5, says-quiet, says-reported, says-routes}
 use Rattle.judge.proofs.verdicts.judge.Statement.{statement}
 use Rattle.judge.proofs.verdicts.judge.Tie as tie
 
@@ -43,13 +43,13 @@ returns c p faces =
     let e = plainEntry (s .e) in
     ap (λ r. standsBy r p (s .time .0) e) (rule-1 (p .local) e (sym (c .before .is-awaiting .ensures) ∙ c .if1 .taken))
 
-add-quiet : tie.Need-add-quiet
-add-quiet c =
+add-quiet-unless : tie.Need-add-quiet-unless
+add-quiet-unless c =
     let s = c .before .before .before .before .before .before .before in
     record { fits = sum-fits (s .args .e .at .0) (s .args .leg-span) (s .pre .1 .1 .0) (s .pre .1 .1 .1 .1 .0) }
 
-quiet-requires : tie.Need-quiet-requires
-quiet-requires c κs = search needs
+quiet-unless-requires : tie.Need-quiet-unless-requires
+quiet-unless-requires c κs = search needs
 
 returns-2 : tie.Need-returns-2
 unfolding plainEntry
@@ -59,14 +59,14 @@ returns-2 c p faces =
     let s = a .before .before .args in
     let e = plainEntry (s .e) in
     let fits = rule-2 (p .local) e (unawaited b) (settled a ∙ c .before .before .before .if2 .taken) in
-    let same = c .quiet .ensures ∙ ap (λ m. unlessQuiet (ltb (s .time .0) (s .e .at .0 + m))) (sym (faces .legSpan)) in
+    let same = c .quiet-unless .ensures ∙ ap (λ m. quietUnless (ltb (s .time .0) (s .e .at .0 + m))) (sym (faces .legSpan)) in
     subst (λ v. Says v p (s .time .0) e) (sym same) (says-quiet p (s .time .0) e settling fits refl)
 
 named-readable-requires : tie.Need-named-readable-requires
 named-readable-requires c κs = search needs
 
-told-requires : tie.Need-told-requires
-told-requires c κs = search needs
+reported-unless-requires : tie.Need-reported-unless-requires
+reported-unless-requires c κs = search needs
 
 returns-3 : tie.Need-returns-3
 unfolding plainEntry
@@ -77,8 +77,8 @@ returns-3 c p faces =
     let e = plainEntry (s .e) in
     let named = c .before .before .if3 .taken in
     let fits = rule-3 (p .local) e (unawaited b) (settled a ∙ c .before .before .before .if2 .left) named in
-    let same = c .told .ensures ∙ ap (unlessTold 1) (c .before .named-readable .ensures (p .departures) (s .time .0) _ _ e (faces .view) refl named) in
-    subst (λ v. Says v p (s .time .0) e) (sym same) (says-told p (s .time .0) e recorded fits refl)
+    let same = c .reported-unless .ensures ∙ ap (reportedUnless 1) (c .before .named-readable .ensures (p .departures) (s .time .0) _ _ e (faces .view) refl named) in
+    subst (λ v. Says v p (s .time .0) e) (sym same) (says-reported p (s .time .0) e recorded fits refl)
 
 by-routes-requires : tie.Need-by-routes-requires
 by-routes-requires c κs =
@@ -102,11 +102,11 @@ judge-spec =
     is-settling-requires
     is-awaiting-requires
     returns
-    add-quiet
-    quiet-requires
+    add-quiet-unless
+    quiet-unless-requires
     returns-2
     named-readable-requires
-    told-requires
+    reported-unless-requires
     returns-3
     by-routes-requires
     returns-4)

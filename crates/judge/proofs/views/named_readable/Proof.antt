@@ -15,11 +15,11 @@ use Rattle.judge.proofs.views.named_readable.Statement.{statement}
 use Rattle.judge.proofs.views.named_readable.Tie as tie
 
 abbrev Inv-loop : tie.InvT-loop
-Inv-loop naming shards readable n i₀ i =
-    (i ≤ n) × ((ds : List Departure) (now : ℕ) (zs cs : List ℕ) → Shows ds now (view shards zs cs readable n) → any (namedOpen now (naming .0)) (drop i ds) ≡ any (namedOpen now (naming .0)) ds)
+Inv-loop departedBy shards readable n i₀ i =
+    (i ≤ n) × ((ds : List Departure) (now : ℕ) (zs cs : List ℕ) → Shows ds now (view shards zs cs readable n) → any (namedOpen now (departedBy .0)) (drop i ds) ≡ any (namedOpen now (departedBy .0)) ds)
 
 abbrev μ-loop : tie.MeasureT-loop
-μ-loop naming shards readable n i₀ i = n - i
+μ-loop departedBy shards readable n i₀ i = n - i
 
 loop-holds : tie.Need-loop-holds Inv-loop μ-loop
 loop-holds c = (search needs, λ ds now zs cs s. refl)
@@ -40,8 +40,8 @@ returns : tie.Need-returns Inv-loop μ-loop
 returns c ds now zs cs e s en t =
     let l = c .before .before .before .before .before .loop in
     let a = c .before .before .before .before .before .before .args in
-    said-named now ds e true (a .naming .0) en t
-    (sym (open-one ds now (view (a .shards .now) zs cs (a .readable .now) (a .n)) s (a .naming .0) (l .i) false (omega arith) (sym (c .before .is-named-open .ensures) ∙ c .if1 .taken)) ∙ l .inv .1 ds now zs cs s)
+    said-named now ds e true (a .departed-by .0) en t
+    (sym (open-one ds now (view (a .shards .now) zs cs (a .readable .now) (a .n)) s (a .departed-by .0) (l .i) false (omega arith) (sym (c .before .is-named-open .ensures) ∙ c .if1 .taken)) ∙ l .inv .1 ds now zs cs s)
 
 add-i : tie.Need-add-i Inv-loop μ-loop
 add-i c = search needs
@@ -55,14 +55,14 @@ loop-again c =
     let a = c .before .before .before .before .before .before .args in (
       omega arith,
       λ ds now zs cs s.
-          open-none ds now (view (a .shards .now) zs cs (a .readable .now) (a .n)) s (a .naming .0) (l .i) false (omega arith) (sym (c .before .is-named-open .ensures) ∙ c .if1 .left) ∙ l .inv .1 ds now zs cs s,
+          open-none ds now (view (a .shards .now) zs cs (a .readable .now) (a .n)) s (a .departed-by .0) (l .i) false (omega arith) (sym (c .before .is-named-open .ensures) ∙ c .if1 .left) ∙ l .inv .1 ds now zs cs s,
     )
 
 returns-2 : tie.Need-returns-2 Inv-loop μ-loop
 returns-2 c ds now zs cs e s en t =
     let l = c .before .loop in
     let a = c .before .before .args in
-    said-named now ds e false (a .naming .0) en t (sym (open-past ds now (view (a .shards .now) zs cs (a .readable .now) (a .n)) s (a .naming .0) (l .i) (omega arith)) ∙ l .inv .1 ds now zs cs s)
+    said-named now ds e false (a .departed-by .0) en t (sym (open-past ds now (view (a .shards .now) zs cs (a .readable .now) (a .n)) s (a .departed-by .0) (l .i) (omega arith)) ∙ l .inv .1 ds now zs cs s)
 
 pub named-readable-spec : {M : Type 1} → statement M
 named-readable-spec =

@@ -19,14 +19,14 @@ enum-known-k c = search needs
 enum-told : tie.Need-enum-told
 enum-told c = search needs
 
-said-requires : tie.Need-said-requires
-said-requires c κs = search needs
+yes-no-requires : tie.Need-yes-no-requires
+yes-no-requires c κs = search needs
 
 returns : tie.Need-returns
 returns c =
     let s = c .before .before .before .before .before in
     let f = c .before .before .before in
-    unanswered (abandonmentAnswers) (s .args .t1) (s .args .tx .0) _ (not-found (s .args .t1) (s .pre) (s .args .tx .0) (sym (f .find .ensures) ∙ c .before .enum-told .given .1)) (c .said .ensures)
+    unanswered (abandonmentAnswers) (s .args .t1) (s .args .tx .0) _ (not-found (s .args .t1) (s .pre) (s .args .tx .0) (sym (f .find .ensures) ∙ c .before .enum-told .given .1)) (c .yes-no .ensures)
 
 there : (c : tie.After-k) → AtSlot (c .before .before .before .before .args .t1) (c .before .before .before .before .args .tx .0) (c .k .given .0 .0)
 there c =
@@ -48,15 +48,15 @@ element-copy-out-e c = there (c .before .before) .slot
 is-abandonable-requires : tie.Need-is-abandonable-requires
 is-abandonable-requires c κs = search needs
 
-said-requires-2 : tie.Need-said-requires-2
-said-requires-2 c κs = search needs
+yes-no-requires-2 : tie.Need-yes-no-requires-2
+yes-no-requires-2 c κs = search needs
 
 returns-2 : tie.Need-returns-2
 unfolding plainEntry
 returns-2 c =
     let k = c .before .before .before .before .before in
     let s = k .before .before .before .before in
-    answered (abandonmentAnswers) (s .args .t1) (s .args .tx .0) (k .k .given .0 .0) _ _ _ (there k) (c .said2 .ensures) (c .before .is-abandonable .ensures)
+    answered (abandonmentAnswers) (s .args .t1) (s .args .tx .0) (k .k .given .0 .0) _ _ _ (there k) (c .yes-no2 .ensures) (c .before .is-abandonable .ensures)
 
 pub abandonment-answers-spec : {M : Type 1} → statement M
 abandonment-answers-spec =
@@ -65,12 +65,12 @@ abandonment-answers-spec =
     find-requires
     enum-known-k
     enum-told
-    said-requires
+    yes-no-requires
     returns
     mul-slot
     element-copy-out-slot
     mul-e
     element-copy-out-e
     is-abandonable-requires
-    said-requires-2
+    yes-no-requires-2
     returns-2)

@@ -40,8 +40,8 @@ is-absent-requires c κs =
     let v = s .args .ledger .«core_span» in
     (t, omega (arith, leb-true v (2 ^ 40) (and-right (leb 1 v) (leb v (2 ^ 40)) (s .pre .good .coreSpan))))
 
-said-requires : tie.Need-said-requires
-said-requires c κs = search needs
+yes-no-requires : tie.Need-yes-no-requires
+yes-no-requires c κs = search needs
 
 returns-3 : tie.Need-returns-3
 unfolding contents
@@ -49,7 +49,7 @@ returns-3 c =
     let q = c .before .before .before .before in
     let none : q .question-refusal .result ≡ 0 = omega arith in
     passes _ _ _ [] [] _ (goes-on _ _ _ (le-ltb _ _ (q .before .if1 .left)) ∙ sym (q .question-refusal .ensures) ∙ none)
-    (says _ _ _ _ (c .said .ensures) (fails _ _ (sym (c .before .before .is-absent .ensures) ∙ not-true _ (c .before .if3 .taken))))
+    (says _ _ _ _ (c .yes-no .ensures) (fails _ _ (sym (c .before .before .is-absent .ensures) ∙ not-true _ (c .before .if3 .taken))))
 
 find-requires : tie.Need-find-requires
 find-requires c κs = search needs
@@ -60,8 +60,8 @@ enum-told c = search needs
 enum-told-2 : tie.Need-enum-told-2
 enum-told-2 c = search needs
 
-said-requires-2 : tie.Need-said-requires-2
-said-requires-2 c κs = search needs
+yes-no-requires-2 : tie.Need-yes-no-requires-2
+yes-no-requires-2 c κs = search needs
 
 returns-4 : tie.Need-returns-4
 unfolding contents
@@ -72,10 +72,10 @@ returns-4 c =
     let none : q .question-refusal .result ≡ 0 = omega arith in
     let a = found-at (s .args .ledger) (s .pre) (s .args .tx .0) _ (sym (f .find .ensures) ∙ c .before .enum-told2 .given .1) in
     passes _ _ _ [] [] _ (goes-on _ _ _ (le-ltb _ _ (q .before .if1 .left)) ∙ sym (q .question-refusal .ensures) ∙ none)
-    (says _ _ _ _ (c .said2 .ensures) (follows _ _ _ (sym (f .before .before .before .is-absent .ensures) ∙ not-false _ (f .before .before .if3 .left)) (sym (a .known))))
+    (says _ _ _ _ (c .yes-no2 .ensures) (follows _ _ _ (sym (f .before .before .before .is-absent .ensures) ∙ not-false _ (f .before .before .if3 .left)) (sym (a .known))))
 
-said-requires-3 : tie.Need-said-requires-3
-said-requires-3 c κs = search needs
+yes-no-requires-3 : tie.Need-yes-no-requires-3
+yes-no-requires-3 c κs = search needs
 
 returns-5 : tie.Need-returns-5
 unfolding contents
@@ -86,7 +86,7 @@ returns-5 c =
     let none : q .question-refusal .result ≡ 0 = omega arith in
     let a = not-found (s .args .ledger) (s .pre) (s .args .tx .0) (sym (f .find .ensures) ∙ c .before .enum-told .given .1) in
     passes _ _ _ [] [] _ (goes-on _ _ _ (le-ltb _ _ (q .before .if1 .left)) ∙ sym (q .question-refusal .ensures) ∙ none)
-    (says _ _ _ _ (c .said3 .ensures) (follows _ _ _ (sym (f .before .before .before .is-absent .ensures) ∙ not-false _ (f .before .before .if3 .left)) (sym (a .known))))
+    (says _ _ _ _ (c .yes-no3 .ensures) (follows _ _ _ (sym (f .before .before .before .is-absent .ensures) ∙ not-false _ (f .before .before .if3 .left)) (sym (a .known))))
 
 pub answers-spec : {M : Type 1} → statement M
 answers-spec =
@@ -98,12 +98,12 @@ answers-spec =
     refusal-requires-2
     returns-2
     is-absent-requires
-    said-requires
+    yes-no-requires
     returns-3
     find-requires
     enum-told
     enum-told-2
-    said-requires-2
+    yes-no-requires-2
     returns-4
-    said-requires-3
+    yes-no-requires-3
     returns-5)

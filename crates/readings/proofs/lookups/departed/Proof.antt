@@ -19,14 +19,14 @@ enum-known-k c = search needs
 enum-told : tie.Need-enum-told
 enum-told c = search needs
 
-said-requires : tie.Need-said-requires
-said-requires c κs = search needs
+yes-no-requires : tie.Need-yes-no-requires
+yes-no-requires c κs = search needs
 
 returns : tie.Need-returns
 returns c =
     let s = c .before .before .before .before .before in
     let f = c .before .before .before in
-    unanswered isNamed (s .args .t1) (s .args .tx .0) _ (not-found (s .args .t1) (s .pre) (s .args .tx .0) (sym (f .find .ensures) ∙ c .before .enum-told .given .1)) (c .said .ensures)
+    unanswered isNamed (s .args .t1) (s .args .tx .0) _ (not-found (s .args .t1) (s .pre) (s .args .tx .0) (sym (f .find .ensures) ∙ c .before .enum-told .given .1)) (c .yes-no .ensures)
 
 there : (c : tie.After-k) → AtSlot (c .before .before .before .before .args .t1) (c .before .before .before .before .args .tx .0) (c .k .given .0 .0)
 there c =
@@ -39,21 +39,21 @@ mul-slot c = omega (arith, there (c .before) .place, c .before .before .before .
 element-copy-out-slot : tie.Need-element-copy-out-slot
 element-copy-out-slot c = omega (arith, there (c .before) .place, c .before .before .before .before .before .pre .roster .room)
 
-mul-said : tie.Need-mul-said
-mul-said c = omega (arith, there (c .before .before) .slot)
+mul-yes-no : tie.Need-mul-yes-no
+mul-yes-no c = omega (arith, there (c .before .before) .slot)
 
-element-copy-out-said : tie.Need-element-copy-out-said
-element-copy-out-said c = there (c .before .before) .slot
+element-copy-out-yes-no : tie.Need-element-copy-out-yes-no
+element-copy-out-yes-no c = there (c .before .before) .slot
 
-said-requires-2 : tie.Need-said-requires-2
-said-requires-2 c κs = search needs
+yes-no-requires-2 : tie.Need-yes-no-requires-2
+yes-no-requires-2 c κs = search needs
 
 returns-2 : tie.Need-returns-2
 unfolding plainEntry
 returns-2 c =
     let k = c .before .before .before in
     let s = k .before .before .before .before in
-    answered isNamed (s .args .t1) (s .args .tx .0) (k .k .given .0 .0) _ _ _ (there k) (c .said2 .ensures) refl
+    answered isNamed (s .args .t1) (s .args .tx .0) (k .k .given .0 .0) _ _ _ (there k) (c .yes-no2 .ensures) refl
 
 pub departed-spec : {M : Type 1} → statement M
 departed-spec =
@@ -62,11 +62,11 @@ departed-spec =
     find-requires
     enum-known-k
     enum-told
-    said-requires
+    yes-no-requires
     returns
     mul-slot
     element-copy-out-slot
-    mul-said
-    element-copy-out-said
-    said-requires-2
+    mul-yes-no
+    element-copy-out-yes-no
+    yes-no-requires-2
     returns-2)

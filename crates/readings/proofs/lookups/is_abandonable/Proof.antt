@@ -17,7 +17,7 @@ returns-2 : tie.Need-returns-2
 returns-2 c = second-fails _ _ _ (sym (c .before .before .is-core .ensures) ∙ not-false _ (c .before .if1 .left)) (le-ltb _ _ (c .if2 .taken))
 
 returns-3 : tie.Need-returns-3
-returns-3 c = third-tells _ _ _ _ (sym (c .before .before .before .is-core .ensures) ∙ not-false _ (c .before .before .if1 .left)) (lt-ltb _ _ (c .before .if2 .left)) (nought (c .before .before .before .before .args .naming .0))
+returns-3 c = third-tells _ _ _ _ (sym (c .before .before .before .is-core .ensures) ∙ not-false _ (c .before .before .if1 .left)) (lt-ltb _ _ (c .before .if2 .left)) (nought (c .before .before .before .before .args .departed-by .0))
 
 pub is-abandonable-spec : {M : Type 1} → statement M
 is-abandonable-spec = tie.close (tie.spec is-core-requires returns returns-2 returns-3)

@@ -18,14 +18,14 @@ enum-known-k c = search needs
 enum-told : tie.Need-enum-told
 enum-told c = search needs
 
-said-requires : tie.Need-said-requires
-said-requires c κs = search needs
+yes-no-requires : tie.Need-yes-no-requires
+yes-no-requires c κs = search needs
 
 returns : tie.Need-returns
 returns c =
     let s = c .before .before .before .before .before in
     let f = c .before .before .before in
-    unanswered (isCovered) (s .args .t1) (s .args .tx .0) _ (not-found (s .args .t1) (s .pre) (s .args .tx .0) (sym (f .find .ensures) ∙ c .before .enum-told .given .1)) (c .said .ensures)
+    unanswered (isCovered) (s .args .t1) (s .args .tx .0) _ (not-found (s .args .t1) (s .pre) (s .args .tx .0) (sym (f .find .ensures) ∙ c .before .enum-told .given .1)) (c .yes-no .ensures)
 
 there : (c : tie.After-k) → AtSlot (c .before .before .before .before .args .t1) (c .before .before .before .before .args .tx .0) (c .k .given .0 .0)
 there c =
@@ -47,14 +47,14 @@ element-copy-out-e c = there (c .before .before) .slot
 covered-requires : tie.Need-covered-requires
 covered-requires c κs = there (c .before .before .before) .fits _
 
-said-requires-2 : tie.Need-said-requires-2
-said-requires-2 c κs = search needs
+yes-no-requires-2 : tie.Need-yes-no-requires-2
+yes-no-requires-2 c κs = search needs
 
 returns-2 : tie.Need-returns-2
 returns-2 c =
     let k = c .before .before .before .before .before in
     let s = k .before .before .before .before in
-    answered (isCovered) (s .args .t1) (s .args .tx .0) (k .k .given .0 .0) _ _ _ (there k) (c .said2 .ensures) (c .before .covered .ensures)
+    answered (isCovered) (s .args .t1) (s .args .tx .0) (k .k .given .0 .0) _ _ _ (there k) (c .yes-no2 .ensures) (c .before .covered .ensures)
 
 pub is-covered-spec : {M : Type 1} → statement M
 is-covered-spec =
@@ -63,12 +63,12 @@ is-covered-spec =
     find-requires
     enum-known-k
     enum-told
-    said-requires
+    yes-no-requires
     returns
     mul-slot
     element-copy-out-slot
     mul-e
     element-copy-out-e
     covered-requires
-    said-requires-2
+    yes-no-requires-2
     returns-2)

@@ -12,13 +12,13 @@ use Rattle.readings.proofs.lookups.issued_by.Tie as tie
 names-requires : tie.Need-names-requires
 names-requires c κs = (c .pre .issuers .sound, rw (c .pre .issuers .pairs) (index-rises (contents (c .args .ledger))))
 
-said-requires : tie.Need-said-requires
-said-requires c κs = search needs
+yes-no-requires : tie.Need-yes-no-requires
+yes-no-requires c κs = search needs
 
 returns : tie.Need-returns
 returns c =
     let s = c .before .before in
-    says _ _ _ _ (c .said .ensures) (c .before .names .ensures ∙ ap (λ l. names l (s .args .r .0) (s .args .tx .0)) (s .pre .issuers .pairs))
+    says _ _ _ _ (c .yes-no .ensures) (c .before .names .ensures ∙ ap (λ l. names l (s .args .r .0) (s .args .tx .0)) (s .pre .issuers .pairs))
 
 pub issued-by-spec : {M : Type 1} → statement M
-issued-by-spec = tie.close (tie.spec names-requires said-requires returns)
+issued-by-spec = tie.close (tie.spec names-requires yes-no-requires returns)

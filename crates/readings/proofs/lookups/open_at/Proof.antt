@@ -20,13 +20,13 @@ returns c = refuses _ _ _ _ [] _ (c .before .if1 .taken) (c .refusal .ensures) (
 passed-requires : tie.Need-passed-requires
 passed-requires c κs = search needs
 
-said-requires : tie.Need-said-requires
-said-requires c κs = search needs
+yes-no-requires : tie.Need-yes-no-requires
+yes-no-requires c κs = search needs
 
 returns-2 : tie.Need-returns-2
 returns-2 c =
     let none : c .before .before .before .question-refusal .result ≡ 0 = omega arith in
-    passes _ _ _ [] [] _ (sym (c .before .before .before .question-refusal .ensures) ∙ none) (says _ _ _ _ (c .said .ensures) (c .before .passed .ensures))
+    passes _ _ _ [] [] _ (sym (c .before .before .before .question-refusal .ensures) ∙ none) (says _ _ _ _ (c .yes-no .ensures) (c .before .passed .ensures))
 
 pub open-at-spec : {M : Type 1} → statement M
 open-at-spec =
@@ -36,5 +36,5 @@ open-at-spec =
     refusal-requires
     returns
     passed-requires
-    said-requires
+    yes-no-requires
     returns-2)

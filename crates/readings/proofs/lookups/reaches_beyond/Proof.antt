@@ -25,15 +25,15 @@ enum-known-k c = search needs
 enum-told : tie.Need-enum-told
 enum-told c = search needs
 
-said-requires : tie.Need-said-requires
-said-requires c κs = search needs
+yes-no-requires : tie.Need-yes-no-requires
+yes-no-requires c κs = search needs
 
 returns : tie.Need-returns
 unfolding contents
 returns c =
     let s = c .before .before .before .before .before in
     let f = c .before .before .before in
-    unanswered (isBeyond (s .args .t1 .local .0)) (s .args .t1) (s .args .tx .0) _ (not-found (s .args .t1) (s .pre) (s .args .tx .0) (sym (f .find .ensures) ∙ c .before .enum-told .given .1)) (c .said .ensures)
+    unanswered (isBeyond (s .args .t1 .local .0)) (s .args .t1) (s .args .tx .0) _ (not-found (s .args .t1) (s .pre) (s .args .tx .0) (sym (f .find .ensures) ∙ c .before .enum-told .given .1)) (c .yes-no .ensures)
 
 there : (c : tie.After-k) → AtSlot (c .before .before .before .before .args .t1) (c .before .before .before .before .args .tx .0) (c .k .given .0 .0)
 there c =
@@ -56,15 +56,15 @@ reaches-beyond-requires : tie.Need-reaches-beyond-requires
 unfolding contents
 reaches-beyond-requires c κs = (there (c .before .before .before .before) .fits _, c .before .before .before .before .before .before .before .before .pre .good .local)
 
-said-requires-2 : tie.Need-said-requires-2
-said-requires-2 c κs = search needs
+yes-no-requires-2 : tie.Need-yes-no-requires-2
+yes-no-requires-2 c κs = search needs
 
 returns-2 : tie.Need-returns-2
 unfolding contents
 returns-2 c =
     let k = c .before .before .before .before .before .before in
     let s = k .before .before .before .before in
-    answered (isBeyond (s .args .t1 .local .0)) (s .args .t1) (s .args .tx .0) (k .k .given .0 .0) _ _ _ (there k) (c .said2 .ensures) (c .before .reaches-beyond .ensures)
+    answered (isBeyond (s .args .t1 .local .0)) (s .args .t1) (s .args .tx .0) (k .k .given .0 .0) _ _ _ (there k) (c .yes-no2 .ensures) (c .before .reaches-beyond .ensures)
 
 pub reaches-beyond-spec : {M : Type 1} → statement M
 reaches-beyond-spec =
@@ -73,12 +73,12 @@ reaches-beyond-spec =
     find-requires
     enum-known-k
     enum-told
-    said-requires
+    yes-no-requires
     returns
     mul-slot
     element-copy-out-slot
     mul-e
     element-copy-out-e
     reaches-beyond-requires
-    said-requires-2
+    yes-no-requires-2
     returns-2)

@@ -7,12 +7,12 @@ use borrow.Author.Needs.{needs}
 use Rattle.readings.proofs.lookups.rebuilt.Statement.{statement}
 use Rattle.readings.proofs.lookups.rebuilt.Tie as tie
 
-told-requires : tie.Need-told-requires
-told-requires c κs = search needs
+answer-requires : tie.Need-answer-requires
+answer-requires c κs = search needs
 
 returns : tie.Need-returns
 unfolding contents
-returns c = tells _ _ _ _ (c .told .ensures) refl
+returns c = tells _ _ _ _ (c .answer .ensures) refl
 
 pub rebuilt-spec : {M : Type 1} → statement M
-rebuilt-spec = tie.close (tie.spec told-requires returns)
+rebuilt-spec = tie.close (tie.spec answer-requires returns)

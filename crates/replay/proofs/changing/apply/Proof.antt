@@ -4,7 +4,7 @@ use borrow.Author.Needs.{needs}
 use mathlib.Core.Path.{_≡_, _∙_}
 use native.Mathlib.Omega.{arith}
 use lib.ListN.{length, take, length-take}
-use Rattle.replay.proofs.Said.{changed}
+use Rattle.replay.proofs.Replied.{changed}
 use Rattle.replay.proofs.changing.apply.Statement.{statement}
 use Rattle.replay.proofs.changing.apply.Tie as tie
 
@@ -32,14 +32,14 @@ turns-of-requires c κs = search needs
 apply-requires : tie.Need-apply-requires
 apply-requires c κs = search needs
 
-element-write-said : tie.Need-element-write-said
-element-write-said c = search needs
+element-write-reply : tie.Need-element-write-reply
+element-write-reply c = search needs
 
-element-write-said-2 : tie.Need-element-write-said-2
-element-write-said-2 c = search needs
+element-write-reply-2 : tie.Need-element-write-reply-2
+element-write-reply-2 c = search needs
 
-element-write-said-3 : tie.Need-element-write-said-3
-element-write-said-3 c = search needs
+element-write-reply-3 : tie.Need-element-write-reply-3
+element-write-reply-3 c = search needs
 
 same-length : tie.Need-same-length
 same-length c = search needs
@@ -52,7 +52,7 @@ returns c =
     let n = s .args .line .lent in
     let all : length (take n (s .args .lent .now)) ≡ n = simp length-take (omega (arith, s .pre .0 .1 .words, s .pre .1 .0)) in
     let size : length (f .fill .last .0) ≡ n = f .fill .kept .0 ∙ all in
-    changed (s .args .line) (s .args .numbers .now) _ _ _ (s .args .lent .now) (f .fill .last .0) _ (s .args .said .now) (a .apply .result) (a .before .turns-of .ensures) (f .fill .ensures) size (a .apply .kept .1 .1 .1 .0 ∙ size) (s .pre .1 .1) (a .apply .ensures)
+    changed (s .args .line) (s .args .numbers .now) _ _ _ (s .args .lent .now) (f .fill .last .0) _ (s .args .reply .now) (a .apply .result) (a .before .turns-of .ensures) (f .fill .ensures) size (a .apply .kept .1 .1 .1 .0 ∙ size) (s .pre .1 .1) (a .apply .ensures)
 
 pub apply-spec : {M : Type 1} → statement M
 apply-spec =
@@ -66,8 +66,8 @@ apply-spec =
     fill-requires
     turns-of-requires
     apply-requires
-    element-write-said
-    element-write-said-2
-    element-write-said-3
+    element-write-reply
+    element-write-reply-2
+    element-write-reply-3
     same-length
     returns)

@@ -4,15 +4,15 @@ use borrow.Author.Needs.{needs}
 use mathlib.Core.List.{[]}
 use Rattle.rules.specs.Calls.{making}
 use Rattle.ledger.specs.Meets.{Meets}
-use Rattle.replay.proofs.Said.{done-by}
+use Rattle.replay.proofs.Replied.{done-by}
 use Rattle.replay.proofs.changing.renew.Statement.{statement}
 use Rattle.replay.proofs.changing.renew.Tie as tie
 
 abbrev Inv-loop : tie.InvT-loop
-Inv-loop numbers times said local validity core-span leg-span done₀ left₀ done left = Meets (making (local .0) validity core-span leg-span) [] [] done
+Inv-loop numbers times reply local validity core-span leg-span done₀ left₀ done left = Meets (making (local .0) validity core-span leg-span) [] [] done
 
 abbrev μ-loop : tie.MeasureT-loop
-μ-loop numbers times said local validity core-span leg-span done₀ left₀ done left = left
+μ-loop numbers times reply local validity core-span leg-span done₀ left₀ done left = left
 
 element-copy-out-validity : tie.Need-element-copy-out-validity Inv-loop μ-loop
 element-copy-out-validity c = search needs
@@ -47,19 +47,19 @@ loop-less c = search needs
 loop-again : tie.Need-loop-again Inv-loop μ-loop
 loop-again c = c .new2 .ensures
 
-element-write-said : tie.Need-element-write-said Inv-loop μ-loop
-element-write-said c = search needs
+element-write-reply : tie.Need-element-write-reply Inv-loop μ-loop
+element-write-reply c = search needs
 
-element-write-said-2 : tie.Need-element-write-said-2 Inv-loop μ-loop
-element-write-said-2 c = search needs
+element-write-reply-2 : tie.Need-element-write-reply-2 Inv-loop μ-loop
+element-write-reply-2 c = search needs
 
-element-write-said-3 : tie.Need-element-write-said-3 Inv-loop μ-loop
-element-write-said-3 c = search needs
+element-write-reply-3 : tie.Need-element-write-reply-3 Inv-loop μ-loop
+element-write-reply-3 c = search needs
 
 returns : tie.Need-returns Inv-loop μ-loop
 returns c =
     let s = c .before .before .before .before .before .before .before .before .before in
-    rw (done-by (s .args .said .now) _ _ _ _ (s .pre)) (c .before .before .loop .inv)
+    rw (done-by (s .args .reply .now) _ _ _ _ (s .pre)) (c .before .before .loop .inv)
 
 pub renew-spec : {M : Type 1} → statement M
 renew-spec =
@@ -78,7 +78,7 @@ renew-spec =
     new-requires-2
     loop-less
     loop-again
-    element-write-said
-    element-write-said-2
-    element-write-said-3
+    element-write-reply
+    element-write-reply-2
+    element-write-reply-3
     returns)

@@ -9,20 +9,20 @@ use Rattle.rules.specs.Readings.{read}
 use Rattle.ledger.specs.Contents.{contents}
 use Rattle.readings.specs.Reads.{Reads}
 use Rattle.dispatch.specs.Reading.{readingOf}
-use Rattle.replay.specs.Lines.{filled, toldBy}
-use Rattle.replay.proofs.Said.{asked-once, asked, some-turn}
+use Rattle.replay.specs.Lines.{filled, answerBy}
+use Rattle.replay.proofs.Replied.{asked-once, asked, some-turn}
 use Rattle.replay.proofs.reading.ask.Statement.{statement}
 use Rattle.replay.proofs.reading.ask.Tie as tie
 
 abbrev Inv-loop : tie.InvT-loop
-Inv-loop ledger numbers times said₀ kind count words n list₀ left₀ said list left =
+Inv-loop ledger numbers times said₀ kind count words n list₀ left₀ reply list left =
     (left ≤ left₀)
     × (length list ≡ length list₀)
-    × (length said ≡ 3)
-    × (left < left₀ → Reads (read (readingOf kind words (length list₀)) (contents ledger)) (filled list₀) list (toldBy said))
+    × (length reply ≡ 3)
+    × (left < left₀ → Reads (read (readingOf kind words (length list₀)) (contents ledger)) (filled list₀) list (answerBy reply))
 
 abbrev μ-loop : tie.MeasureT-loop
-μ-loop ledger numbers times said₀ kind count words n list₀ left₀ said list left = left
+μ-loop ledger numbers times said₀ kind count words n list₀ left₀ reply list left = left
 
 sub-kind : tie.Need-sub-kind Inv-loop μ-loop
 sub-kind c = search needs
@@ -56,11 +56,11 @@ fill-requires c κs = search needs
 ask-requires : tie.Need-ask-requires Inv-loop μ-loop
 ask-requires c κs = search needs
 
-element-write-said : tie.Need-element-write-said Inv-loop μ-loop
-element-write-said c = search needs
+element-write-reply : tie.Need-element-write-reply Inv-loop μ-loop
+element-write-reply c = search needs
 
-element-write-said-2 : tie.Need-element-write-said-2 Inv-loop μ-loop
-element-write-said-2 c = search needs
+element-write-reply-2 : tie.Need-element-write-reply-2 Inv-loop μ-loop
+element-write-reply-2 c = search needs
 
 loop-less : tie.Need-loop-less Inv-loop μ-loop
 loop-less c = search needs
@@ -71,7 +71,7 @@ loop-again c =
     let f = a .before .before .before .before in
     let l = f .before .before .before .loop in
     let s = f .before .before .before .before .before .before .before .before .before .before in
-    (omega arith, a .ask .kept .1 .1 .1 .0 ∙ f .fill .kept .0 ∙ l .inv .1, simp length-set (l .inv .2), λ h. asked-once _ _ _ (take (s .args .line .lent) (s .args .lent .now)) (l .list) _ _ (l .said) (a .ask .result) (l .inv .2) (l .inv .1) (f .fill .ensures) (a .ask .ensures))
+    (omega arith, a .ask .kept .1 .1 .1 .0 ∙ f .fill .kept .0 ∙ l .inv .1, simp length-set (l .inv .2), λ h. asked-once _ _ _ (take (s .args .line .lent) (s .args .lent .now)) (l .list) _ _ (l .reply) (a .ask .result) (l .inv .2) (l .inv .1) (f .fill .ensures) (a .ask .ensures))
 
 same-length : tie.Need-same-length Inv-loop μ-loop
 same-length c = search needs
@@ -101,8 +101,8 @@ ask-spec =
     sub-left
     fill-requires
     ask-requires
-    element-write-said
-    element-write-said-2
+    element-write-reply
+    element-write-reply-2
     loop-less
     loop-again
     same-length

@@ -21,8 +21,8 @@ returns c =
     let s = k .before .before in
     known-in (whole s) (s .args .x .0) (s .pre .0) (k .rank .result) (k .rank .ensures) _ (c .before .stands .ensures) (c .if1 .taken)
 
-open-requires : tie.Need-open-requires
-open-requires c κs =
+insert-at-requires : tie.Need-insert-at-requires
+insert-at-requires c κs =
     let k = c .before .before .before .before in
     let s = k .before .before in
     (s .pre .0 .sized, rank-room (whole s) (s .args .x .0) (s .pre .0) (k .rank .result) (k .rank .ensures), s .pre .1)
@@ -35,8 +35,8 @@ returns-2 c =
     let d = c .before .before in
     let k = d .before .before .before in
     let s = k .before .before in
-    put-in (whole s) (s .args .x .0) (s .pre .0) (k .rank .result) (k .rank .ensures) _ _ (d .before .stands .ensures) (d .if1 .left) (c .open .ensures)
+    put-in (whole s) (s .args .x .0) (s .pre .0) (k .rank .result) (k .rank .ensures) _ _ (d .before .stands .ensures) (d .if1 .left) (c .insert-at .ensures)
 
 pub include-spec : {M : Type 1} → statement M
 include-spec =
-    tie.close (tie.spec rank-requires stands-requires returns open-requires add-result returns-2)
+    tie.close (tie.spec rank-requires stands-requires returns insert-at-requires add-result returns-2)

@@ -63,8 +63,8 @@ returns c =
     let q = include-known pairKey (e s) (l s) (s .pre .1) (stands s _ true (c .before .stands-at .ensures) (c .if1 .taken)) in
     (record { sound = s .pre .0; pairs = sym q }, s .pre .2)
 
-open-requires : tie.Need-open-requires
-open-requires c κs =
+insert-at-requires : tie.Need-insert-at-requires
+insert-at-requires c κs =
     let b = c .before .before in
     let k = b .before .before .before .before in
     let s = from b in
@@ -82,8 +82,8 @@ returns-2 c =
     let b = c .before .before .before in
     let k = b .before .before .before .before in
     let s = from b in
-    let o = c .open .last in
-    put-in s (k .rank .result) (made (o .0) (o .1 .0) (s .args .n + 1)) (new b) (k .rank .ensures) (c .open .ensures)
+    let o = c .insert-at .last in
+    put-in s (k .rank .result) (made (o .0) (o .1 .0) (s .args .n + 1)) (new b) (k .rank .ensures) (c .insert-at .ensures)
 
 pub name-spec : {M : Type 1} → statement M
-name-spec = tie.close (tie.spec rank-requires stands-at-requires returns open-requires add-result returns-2)
+name-spec = tie.close (tie.spec rank-requires stands-at-requires returns insert-at-requires add-result returns-2)

@@ -99,8 +99,8 @@ judged k =
     let l = b .loop in
     judged-all (s .args .t1) (s .pre) (l .c .stay) (l .c .codes) (l .c .count) (l .i) (l .inv) (omega arith)
 
-carried-out-requires : tie.Need-carried-out-requires Inv-loop μ-loop
-carried-out-requires c κs =
+apply-closing-requires : tie.Need-apply-closing-requires Inv-loop μ-loop
+apply-closing-requires c κs =
     let k = c .before .before in
     let b = k .before in
     let s = b .before .before .before .before in
@@ -119,7 +119,7 @@ returns c =
     let o = c .before .before .before .before in
     let k = o .before .before .before in
     let s = k .before .before .before .before .before in
-    o .carried-out .ensures (s .args .t1) (s .pre) (judged k)
+    o .apply-closing .ensures (s .args .t1) (s .pre) (judged k)
 
 pub closes-spec : {M : Type 1} → statement M
 closes-spec =
@@ -145,6 +145,6 @@ closes-spec =
     add-i-2
     loop-less-2
     loop-again-2
-    carried-out-requires
+    apply-closing-requires
     same-length
     returns)

@@ -9,7 +9,7 @@ use lib.ListN.{length}
 use Rattle.store.proofs.Rosters.{slot-within}
 use Rattle.sweeps.specs.Pruning.{Judges}
 use Rattle.sweeps.proofs.Several.{here-fits}
-use Rattle.sweeps.proofs.Reporting.{JudgingIn, pass-none, local-good, validity-good, leg-good, file-good, here-timed, pass-stands, pass-idle, pass-falls, pass-told, passed, reports-few}
+use Rattle.sweeps.proofs.Reporting.{JudgingIn, pass-none, local-good, validity-good, leg-good, file-good, here-timed, pass-stands, pass-idle, pass-falls, pass-reported, passed, reports-few}
 use borrow.Author.Needs.{needs}
 use Rattle.sweeps.proofs.prune.prune.Statement.{statement}
 use Rattle.sweeps.proofs.prune.prune.Tie as tie
@@ -153,7 +153,7 @@ loop-again c =
     (λ w. rw (w .3) (pass-idle at (s .pre) now i (within k) _ (v .of .result) (v .of .ensures) (j .judge .result) (j .judge .ensures) (b .loop .p) (b .loop .inv) (w .1 .given .1) (w .2 .left)))
     (⊎-elim
     (λ w. rw (w .2) (pass-falls at (s .pre) now i (within k) _ (v .of .result) (v .of .ensures) (j .judge .result) (j .judge .ensures) (b .loop .p) (b .loop .inv) (w .1 .given .1)))
-    (λ w. rw (w .3) (pass-told at (s .pre) now i (within k) _ (v .of .result) (v .of .ensures) (j .judge .result) (j .judge .ensures) (b .loop .p) (b .loop .inv) (w .1 .given .0 .0) (w .1 .given .1)))))
+    (λ w. rw (w .3) (pass-reported at (s .pre) now i (within k) _ (v .of .result) (v .of .ensures) (j .judge .result) (j .judge .ensures) (b .loop .p) (b .loop .inv) (w .1 .given .0 .0) (w .1 .given .1)))))
     (c .match .came)
 
 judged : (k : tie.After-loop Inv-loop μ-loop) → let s = k .before .before .before .before .before .before .before .before in Judges (s .args .t1) (s .args .time .0) (k .before .loop .p)
@@ -162,8 +162,8 @@ judged k =
     let s = b .before .before .before .before .before .before .before in
     passed (s .args .t1) (s .pre) (s .args .time .0) (b .loop .p) (b .loop .i) (b .loop .inv) (omega arith)
 
-carried-out-requires : tie.Need-carried-out-requires Inv-loop μ-loop
-carried-out-requires c κs =
+apply-pruning-requires : tie.Need-apply-pruning-requires Inv-loop μ-loop
+apply-pruning-requires c κs =
     let k = c .before .before .before in
     let b = k .before in
     let s = b .before .before .before .before .before .before .before in
@@ -183,7 +183,7 @@ returns c =
     let k = o .before .before .before .before in
     let b = k .before in
     let s = b .before .before .before .before .before .before .before in
-    o .carried-out .ensures (s .args .t1) (s .pre) (judged k)
+    o .apply-pruning .ensures (s .args .t1) (s .pre) (judged k)
 
 pub prune-spec : {M : Type 1} → statement M
 prune-spec =
@@ -220,6 +220,6 @@ prune-spec =
     add-i
     loop-less
     loop-again
-    carried-out-requires
+    apply-pruning-requires
     same-length
     returns)

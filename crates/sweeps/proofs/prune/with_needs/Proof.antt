@@ -13,7 +13,7 @@ use Rattle.rules.specs.Plain.{Departure, shardOf}
 use Rattle.rules.specs.Good.{GoodDeparture}
 use Rattle.entry.specs.Entry.{plainEntry}
 use Rattle.judge.specs.View.{zerosOf, cutOf}
-use Rattle.sweeps.specs.Pruning.{orHolds, Reads}
+use Rattle.sweeps.specs.Pruning.{orHolds, Columns}
 use Rattle.sweeps.proofs.Pruning.{marking, mark-kept, mark-new, mark-end}
 use borrow.Author.Needs.{needs}
 use Rattle.sweeps.proofs.prune.with_needs.Statement.{statement}
@@ -24,13 +24,13 @@ nobody = record { shard = 0; cut = 0; stamp = none }
 
 abbrev Inv-loop : tie.InvT-loop
 Inv-loop e local shards zeros cuts n out₀ j₀ out j =
-    (j ≤ n) × (length out ≡ 32) × ((ds : List Departure) → Reads ds shards zeros cuts n → marking (local .0) (plainEntry e) ds n out j ≡ zipBy (orHolds (local .0) (plainEntry e)) (take n out₀) ds)
+    (j ≤ n) × (length out ≡ 32) × ((ds : List Departure) → Columns ds shards zeros cuts n → marking (local .0) (plainEntry e) ds n out j ≡ zipBy (orHolds (local .0) (plainEntry e)) (take n out₀) ds)
 
 abbrev μ-loop : tie.MeasureT-loop
 μ-loop e local shards zeros cuts n out₀ j₀ out j = n - j
 
 -- as many as there are departures
-count : (s : tie.Start Inv-loop μ-loop) (ds : List Departure) → Reads ds (s .args .shards .now) (s .args .zeros .now) (s .args .cuts .now) (s .args .n) → length ds ≡ s .args .n
+count : (s : tie.Start Inv-loop μ-loop) (ds : List Departure) → Columns ds (s .args .shards .now) (s .args .zeros .now) (s .args .cuts .now) (s .args .n) → length ds ≡ s .args .n
 count s ds w = front-length shardOf (s .args .shards .now) (s .args .n) ds (omega arith) (w .shards)
 
 loop-holds : tie.Need-loop-holds Inv-loop μ-loop

@@ -84,7 +84,7 @@ returns c =
         };
         part = plainPart (a .part);
         certificate = a .certified;
-        naming = a .naming .0;
+        departedBy = a .departed-by .0;
         absences = [];
         marks = [];
         returned = false;

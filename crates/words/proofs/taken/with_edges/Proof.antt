@@ -199,7 +199,7 @@ returns c =
         };
         part = plainPart (a .args .e .part);
         certificate = a .args .e .certified;
-        naming = a .args .e .naming .0;
+        departedBy = a .args .e .«departed_by» .0;
         absences = absencesOf (a .args .e);
         marks = take (a .args .e .«marks_len») (a .args .e .marks);
         returned = a .args .e .returned;

@@ -49,8 +49,8 @@ returns c =
 rank-requires : tie.Need-rank-requires
 rank-requires c κs = search needs
 
-opened-requires : tie.Need-opened-requires
-opened-requires c κs =
+insert-at-requires : tie.Need-insert-at-requires
+insert-at-requires c κs =
     let s = c .before .before .before .before in
     let n = file-length (s .args .self) (s .pre .0) in (
       s .pre .0,
@@ -62,8 +62,8 @@ returns-2 : tie.Need-returns-2
 returns-2 c =
     let s = c .before .before .before .before .before in
     record {
-      sound = c .opened .ensures .sound;
-      file = c .opened .ensures .file
+      sound = c .insert-at .ensures .sound;
+      file = c .insert-at .ensures .file
           ∙ ap (λ k. insertAt k (e s) (l s)) (c .before .rank .ensures)
           ∙ include-rank shardOf (e s) (l s) (new (c .before));
     }
@@ -71,4 +71,4 @@ returns-2 c =
 pub departed-spec : {M : Type 1} → statement M
 departed-spec =
     tie.close
-    (tie.spec find-requires enum-told enum-told-2 returns rank-requires opened-requires returns-2)
+    (tie.spec find-requires enum-told enum-told-2 returns rank-requires insert-at-requires returns-2)

@@ -53,8 +53,8 @@ loop-again c =
     ap p (pairs-at pair (x .records) (x .transactions) (x .len) (omega arith) (omega arith) 0 0 (pair 0 0) (l .i) (omega arith)) in
     (search needs, search needs, fill-one p (l .stay) (pairsIn x) (l .i) (pair 0 0) _ (omega arith) (omega arith) (sym m) (l .inv .2))
 
-kept-requires : tie.Need-kept-requires Inv-loop μ-loop
-kept-requires c κs = search needs
+retain-requires : tie.Need-retain-requires Inv-loop μ-loop
+retain-requires c κs = search needs
 
 returns : tie.Need-returns Inv-loop μ-loop
 returns c =
@@ -65,7 +65,7 @@ returns c =
     let q : l .i ≡ x .len = omega arith in
     let e : take (l .i) (pairsIn x) ≡ pairsIn x = take-all (l .i) (pairsIn x) (omega (arith, pairs-length x (s .pre))) in
     let f : take (x .len) (l .stay) ≡ map p (pairsIn x) = ap (λ m. take m (l .stay)) (sym q) ∙ l .inv .2 ∙ ap (map p) e in
-    let k = c .kept .ensures in
+    let k = c .retain .ensures in
     record { sound = k .sound; pairs = k .pairs ∙ ap (λ m. keepBy m (pairsIn x)) f ∙ keepBy-test p (pairsIn x) }
 
 pub without-spec : {M : Type 1} → statement M
@@ -81,5 +81,5 @@ without-spec =
     add-i
     loop-less
     loop-again
-    kept-requires
+    retain-requires
     returns)
