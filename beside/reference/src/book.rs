@@ -89,12 +89,13 @@ impl Book {
 
 /// Write the items to the front of the lent list, or refuse and leave both alone.
 pub(crate) fn write<const WORDS: usize>(
-    items: &[[u64; WORDS]],
+    items: impl ExactSizeIterator<Item = [u64; WORDS]>,
     lent: &mut [u64],
 ) -> Result<u64, u64> {
-    let words = items.as_flattened();
-    lent.get_mut(..words.len())
-        .ok_or(LIST_SHORT)?
-        .copy_from_slice(words);
-    Ok(items.len() as u64)
+    let count = items.len();
+    let places = lent.get_mut(..count * WORDS).ok_or(LIST_SHORT)?;
+    for (place, item) in places.chunks_exact_mut(WORDS).zip(items) {
+        place.copy_from_slice(&item);
+    }
+    Ok(count as u64)
 }

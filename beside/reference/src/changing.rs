@@ -106,13 +106,9 @@ fn put_back(book: &mut Book, before: Option<Ledger>) {
 /// The Rust refuses no list, so it runs on and a list too short puts the copy back.
 pub fn closes(book: &mut Book, given: Given) -> Answered {
     let before = spare(book, given.lent.len() / 2);
-    let closed: Vec<[u64; 2]> = book
-        .ledger
-        .closes()
-        .into_iter()
-        .map(|(tx_hash, resolution)| [tx_hash.0, code(resolution)])
-        .collect();
-    let written = write(&closed, given.lent).inspect_err(|_| put_back(book, before))?;
+    let closed = book.ledger.closes().into_iter();
+    let words = closed.map(|(tx_hash, resolution)| [tx_hash.0, code(resolution)]);
+    let written = write(words, given.lent).inspect_err(|_| put_back(book, before))?;
     given.say(written)
 }
 
@@ -174,20 +170,13 @@ pub fn prune(book: &mut Book, given: Given) -> Answered {
     times(given.numbers)?;
     let before = spare(book, given.lent.len() / 3);
     let owed = book.ledger.len();
-    let reports: Vec<[u64; 3]> = book
-        .ledger
-        .prune(WeightedTimestamp(given.numbers[0]))
-        .into_iter()
-        .map(|gone| {
-            [
-                gone.tx_hash.0,
-                u64::from(gone.covered_by_record),
-                gone.charge.0,
-            ]
-        })
-        .collect();
+    let reports = book.ledger.prune(WeightedTimestamp(given.numbers[0]));
     let fell = (owed - book.ledger.len()) as u64;
-    let written = write(&reports, given.lent).inspect_err(|_| put_back(book, before))?;
+    let words = reports.into_iter().map(|gone| {
+        let covered = u64::from(gone.covered_by_record);
+        [gone.tx_hash.0, covered, gone.charge.0]
+    });
+    let written = write(words, given.lent).inspect_err(|_| put_back(book, before))?;
     given.said.push(written);
     given.said.push(fell);
     Ok(())

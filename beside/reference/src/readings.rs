@@ -13,23 +13,12 @@ use crate::table::Given;
 type Answered = Result<(), u64>;
 
 pub fn questions(book: &mut Book, given: Given) -> Answered {
-    let items: Vec<[u64; 5]> = book
-        .ledger
-        .questions()
-        .into_iter()
-        .map(|asked| {
-            let deadline = asked.deadline;
-            let end = deadline.validity_end();
-            [
-                asked.tx_hash.0,
-                asked.shard.0,
-                asked.key.0,
-                deadline.at().0,
-                end.0,
-            ]
-        })
-        .collect();
-    list(&items, given)
+    let asked = book.ledger.questions().into_iter();
+    let words = asked.map(|asked| {
+        let (at, end) = (asked.deadline.at().0, asked.deadline.validity_end().0);
+        [asked.tx_hash.0, asked.shard.0, asked.key.0, at, end]
+    });
+    list(words, given)
 }
 
 fn question(numbers: &[u64]) -> Question {
@@ -66,26 +55,22 @@ pub fn answers(book: &mut Book, given: Given) -> Answered {
 
 pub fn past_deadline(book: &mut Book, given: Given) -> Answered {
     times(given.numbers)?;
-    let items: Vec<[u64; 5]> = book
+    let past = book
         .ledger
-        .past_deadline(WeightedTimestamp(given.numbers[0]))
-        .into_iter()
-        .map(|tx| {
-            let (at, end) = (tx.deadline.at().0, tx.deadline.validity_end().0);
-            [tx.tx_hash.0, at, end, tx.committed.anchor.0, tx.charge.0]
-        })
-        .collect();
-    list(&items, given)
+        .past_deadline(WeightedTimestamp(given.numbers[0]));
+    let words = past.into_iter().map(|tx| {
+        let (at, end) = (tx.deadline.at().0, tx.deadline.validity_end().0);
+        [tx.tx_hash.0, at, end, tx.committed.anchor.0, tx.charge.0]
+    });
+    list(words, given)
 }
 
 pub fn issuers_of(book: &mut Book, given: Given) -> Answered {
-    let items: Vec<[u64; 2]> = book
-        .ledger
-        .issuers_of(&CrossingId(given.numbers[0]))
+    let issuers = book.ledger.issuers_of(&CrossingId(given.numbers[0]));
+    let words = issuers
         .into_iter()
-        .map(|issuer| [issuer.tx.0, issuer.validity_end_ms])
-        .collect();
-    list(&items, given)
+        .map(|issuer| [issuer.tx.0, issuer.validity_end_ms]);
+    list(words, given)
 }
 
 pub fn claimants(book: &mut Book, given: Given) -> Answered {
@@ -112,8 +97,7 @@ pub fn unstamped_departures(book: &mut Book, given: Given) -> Answered {
 /// Added by the paper: read from the entry as held.
 pub fn reach(book: &mut Book, given: Given) -> Answered {
     let routes = inside::reach(&book.ledger, TxHash(given.numbers[0]));
-    let items: Vec<[u64; 1]> = routes.iter().map(|route| [route.0]).collect();
-    list(&items, given)
+    list(routes.iter().map(|route| [route.0]), given)
 }
 
 pub fn abandonment_answers(book: &mut Book, given: Given) -> Answered {
@@ -172,12 +156,17 @@ fn lookup(book: &Book, given: Given, ask: impl Fn(&Ledger, TxHash) -> bool) -> A
     given.say(u64::from(answer))
 }
 
-fn list_shards(shards: impl IntoIterator<Item = ShardId>, given: Given) -> Answered {
-    let items: Vec<[u64; 1]> = shards.into_iter().map(|shard| [shard.0]).collect();
-    list(&items, given)
+fn list_shards(
+    shards: impl IntoIterator<Item = ShardId, IntoIter: ExactSizeIterator>,
+    given: Given,
+) -> Answered {
+    list(shards.into_iter().map(|shard| [shard.0]), given)
 }
 
-fn list<const WORDS: usize>(items: &[[u64; WORDS]], given: Given) -> Answered {
-    let written = write(items, given.lent)?;
+fn list<const WORDS: usize>(
+    words: impl ExactSizeIterator<Item = [u64; WORDS]>,
+    given: Given,
+) -> Answered {
+    let written = write(words, given.lent)?;
     given.say(written)
 }

@@ -1,4 +1,3 @@
 pub mod Counting
 pub mod Rebuilding
 pub mod Resolving
-pub mod Going

@@ -31,6 +31,3 @@ ruledBy code isOpen isOwing =
 abbrev pub ruledOn : ℕ → List ℕ → Line → Entry → Ruling
 ruledOn local deciding l e =
     ruledBy (l .decision) (isSettling (e .part) && not (has self (l .transaction) deciding)) (isCore (e .part) && owes local (e .terms))
-
-abbrev pub line : ℕ → ℕ → Line
-line t code = record { transaction = t; decision = code }

@@ -12,30 +12,32 @@ ghost use Rattle.store.specs.Roster.{Sound, keysOf};
 ghost use Rattle.ledger.specs.Contents.{Held, contents};
 ghost use Rattle.ledger.specs.Meets.{Meets};
 ghost use Rattle.batches.specs.Abandoned.{transactions, newTo, refusalBy};
+ghost use Rattle.types.specs.Transactions.{numberOf};
 use crate::items_of;
 use ledger::Done;
 use ledger::Ledger;
 use lists::Found;
+use lists::slices::size_at;
 use store::roster::Roster;
-use types::Shard;
 use types::Transaction;
 use types::is_shard;
 use words::record::group;
 use words::record::group_transaction;
+use words::record::reach_at;
+use words::record::reaches_at;
 use words::record::record_formed;
+use words::record::record_shard;
 use words::record::record_timed;
-use words::slices::size_at;
-use words::slices::word_at;
 
 // Whether one of the first n groups is of the transaction.
 fn is_among(words: &[u64], n: usize, tx: Transaction) -> bool
     requires { ⌜ (recordFormed (now words) ≡ true) × (n ≤ groupCount (now words)) ⌝ }
-    ensures { λ r. ⌜ r ≡ has self (tx .0) (take n (transactions (now (words .entry)))) ⌝ }
+    ensures { λ r. ⌜ r ≡ has self (numberOf tx) (take n (transactions (now (words .entry)))) ⌝ }
 {
     let mut i: usize = 0;
     while i < n {
         let other = group_transaction(words, i);
-        if other.0 == tx.0 {
+        if other.is(tx) {
             return true;
         }
         i += 1;
@@ -77,7 +79,8 @@ fn refusal(roster: Roster, words: &[u64]) -> u64
     if !record_timed(words) {
         return 3;
     }
-    if !is_shard(word_at(words, 1)) {
+    let shard = record_shard(words);
+    if !is_shard(shard.0) {
         return 4;
     }
     let new = count_new(roster, words);
@@ -102,13 +105,13 @@ pub fn record_abandonment(mut ledger: Ledger, words: &[u64]) -> Done
 {
     let refused = refusal(ledger.roster, words);
     let n = items_of(words, refused);
-    let shard = Shard(word_at(words, 1));
-    let mut at = 2 + n + 5 * n;
+    let shard = record_shard(words);
+    let mut at = reaches_at(n);
     let mut rebuilt: u64 = 0;
     let mut i: usize = 0;
     while i < n {
         let e = group(words, i, at);
-        at += size_at(words, 2 + i);
+        at += reach_at(words, i);
         i += 1;
         let roster = ledger.roster;
         let tx = e.tx;
@@ -130,8 +133,7 @@ pub fn record_abandonment(mut ledger: Ledger, words: &[u64]) -> Done
     ledger.rebuilt = capped(ledger.rebuilt, rebuilt);
     Done {
         refused,
-        answer: rebuilt,
-        fallen: 0,
+        answers: [rebuilt, 0, 0],
         ledger,
     }
 }

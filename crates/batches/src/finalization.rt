@@ -9,7 +9,9 @@ ghost use Rattle.rules.specs.Words.{finalizationFormed, deciding};
 ghost use Rattle.entry.specs.Entry.{plainEntry, plainPart, Fits};
 ghost use Rattle.ledger.specs.Contents.{Held, contents};
 ghost use Rattle.ledger.specs.Meets.{Meets};
-ghost use Rattle.batches.specs.Rulings.{ruledBy, ruledOn, line};
+ghost use Rattle.batches.specs.Rulings.{ruledBy, ruledOn};
+ghost use Rattle.words.specs.Lines.{plainLine};
+ghost use Rattle.types.specs.Transactions.{numberOf};
 use crate::items_of;
 use entry::Entry;
 use entry::Part;
@@ -18,10 +20,10 @@ use ledger::Ledger;
 use lists::Found;
 use types::Shard;
 use types::Transaction;
+use words::finalization::Line;
 use words::finalization::finalization_formed;
-use words::slices::contains;
-use words::slices::part;
-use words::slices::size_at;
+use words::finalization::is_deciding;
+use words::finalization::line_at;
 
 // What a line does with the entry that it names; Refused for a code that is none of the three.
 pub enum Ruling {
@@ -52,20 +54,10 @@ fn decide(code: u64, is_open: bool, is_owing: bool) -> Ruling
     }
 }
 
-// Whether the transaction is among the deciding.
-fn is_deciding(words: &[u64], tx: Transaction) -> bool
-    requires { ⌜ finalizationFormed (now words) ≡ true ⌝ }
-    ensures { λ r. ⌜ r ≡ has self (tx .0) (deciding (now (words .entry))) ⌝ }
-{
-    let n = size_at(words, 0);
-    let m = size_at(words, 1);
-    contains(part(words, 2 + n + n, m), tx.0)
-}
-
 // Whether the part waits for a settlement that these lines do not decide.
 fn is_open(words: &[u64], tx: Transaction, part: Part) -> bool
     requires { ⌜ finalizationFormed (now words) ≡ true ⌝ }
-    ensures { λ r. ⌜ r ≡ isSettling (plainPart part) && not (has self (tx .0) (deciding (now (words .entry)))) ⌝ }
+    ensures { λ r. ⌜ r ≡ isSettling (plainPart part) && not (has self (numberOf tx) (deciding (now (words .entry)))) ⌝ }
 {
     part.is_settling() && !is_deciding(words, tx)
 }
@@ -79,15 +71,15 @@ fn is_owing(e: Entry, local: Shard) -> bool
     part.is_core() && e.owes(local)
 }
 
-// What the line of a transaction and a decision code does with the transaction's entry.
-fn rule(words: &[u64], tx: Transaction, code: u64, e: Entry, local: Shard) -> Ruling
+// What a line does with its transaction's entry.
+fn rule(words: &[u64], line: Line, e: Entry, local: Shard) -> Ruling
     requires { ⌜ (finalizationFormed (now words) ≡ true) × Fits e ⌝ }
-    ensures { λ r. ⌜ r ≡ ruledOn (local .0) (deciding (now (words .entry))) (line (tx .0) code) (plainEntry e) ⌝ }
+    ensures { λ r. ⌜ r ≡ ruledOn (local .0) (deciding (now (words .entry))) (plainLine line) (plainEntry e) ⌝ }
 {
     let part = e.part;
-    let open = is_open(words, tx, part);
+    let open = is_open(words, line.tx, part);
     let owing = is_owing(e, local);
-    decide(code, open, owing)
+    decide(line.code, open, owing)
 }
 
 // The number by which the words are turned away, 0 for none.
@@ -107,8 +99,8 @@ pub fn release_resolved(mut ledger: Ledger, words: &[u64]) -> Done
     let mut released: u64 = 0;
     let mut i: usize = 0;
     while i < n {
-        let tx = Transaction(words[2 + i]);
-        let code = words[2 + n + i];
+        let line = line_at(words, i);
+        let tx = line.tx;
         i += 1;
         let roster = ledger.roster;
         let Found::At(k) = roster.find(tx) else {
@@ -116,7 +108,7 @@ pub fn release_resolved(mut ledger: Ledger, words: &[u64]) -> Done
         };
         let slot = roster.slots[k];
         let e = ledger.entries[slot];
-        match rule(words, tx, code, e, ledger.local) {
+        match rule(words, line, e, ledger.local) {
             Ruling::Skip => {}
             Ruling::Resolve => {
                 ledger.entries[slot] = e.resolve();
@@ -132,8 +124,7 @@ pub fn release_resolved(mut ledger: Ledger, words: &[u64]) -> Done
     }
     Done {
         refused,
-        answer: released,
-        fallen: 0,
+        answers: [released, 0, 0],
         ledger,
     }
 }

@@ -7,7 +7,7 @@ ghost use mathlib.Core.Path.{_≡_};
 ghost use mathlib.Core.Bool.{cond};
 ghost use lib.Dec.{ltb};
 ghost use Rattle.rules.specs.Words.{word};
-use words::slices::size_at;
+use lists::slices::size_at;
 
 // How many items there are to go through, which the words begin with; none where they are refused, so that a loop has no turns.
 fn items_of(words: &[u64], refused: u64) -> usize

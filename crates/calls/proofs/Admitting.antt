@@ -26,6 +26,7 @@ use Rattle.rules.specs.Good.{Holds, Good}
 use Rattle.rules.proofs.Kept.{step-good, passed}
 use Rattle.rules.proofs.Named.{IsOfWord, index-size, index-rises, good-words}
 use Rattle.rules.proofs.Reindex.{indexOf-include}
+use Rattle.types.specs.Transactions.{numberOf}
 use Rattle.entry.specs.declared.Entry.{Entry}
 use Rattle.entry.specs.Entry.{plainEntry, Means}
 use Rattle.store.specs.declared.roster.Roster.{Roster}
@@ -33,10 +34,11 @@ use Rattle.store.specs.declared.issuers.Issuers.{Issuers}
 use Rattle.store.specs.Roster.{keysOf, freeSlot, is, below, Inserted}
 use Rattle.store.specs.Issuers as issuers
 use Rattle.ledger.specs.declared.Ledger.{Ledger}
-use Rattle.ledger.specs.Contents.{contents, Held}
-use Rattle.ledger.specs.Meets.{Meets}
-use Rattle.ledger.proofs.Lift.{withParts, entries-length, found-at, not-found, taken-in}
-use Rattle.ledger.proofs.Meeting.{refuses, passes, answers, good-after, says, saysNo}
+use Rattle.ledger.specs.Contents.{contents, Held, withParts}
+use Rattle.ledger.specs.Meets.{Meets, says, saysNo}
+use Rattle.ledger.proofs.Places.{entries-length, found-at, not-found}
+use Rattle.ledger.proofs.Lift.{taken-in}
+use Rattle.ledger.proofs.Meeting.{refuses, passes, answers, good-after}
 use Rattle.calls.specs.Naming.{Nameable, withPairs}
 use Rattle.calls.specs.Refusals.{wordsRefusal, roomRefusal, tableRefusal}
 
@@ -148,7 +150,7 @@ module _ (l : Ledger) (h : Held l) (ws : List ℕ) where
       skipped k u =
           let known = found-at l h t k (sym q ∙ u) .known in
           let stands : has transactionOf (transactionOf (admitted (contents l .local) ws)) (contents l .entries) ≡ true = rw (admitted-transaction (contents l .local) ws) known in
-          let kept = include-known transactionOf (admitted (contents l .local) ws) (contents l .entries) (h .good .entryOrder) stands in
+          let kept = include-known transactionOf (admitted (contents l .local) ws) (contents l .entries) (h .good .entries .rows .order) stands in
           passes (admissionRefusal ws (contents l)) (contents l) o [] [] _ fits
           (rw (known, kept) (answers 0 l (contents l) (says 0 l) (record { held = h; holds = refl }) refl))
 
@@ -163,16 +165,16 @@ module _ (l : Ledger) (h : Held l) (ws : List ℕ) where
           unfolding contents
           plain = m .plain
 
-          same : x .tx .0 ≡ t
+          same : numberOf (x .tx) ≡ t
           unfolding plainEntry
           same = ap transactionOf plain ∙ admitted-transaction (contents l .local) ws
 
-          missed : place (is (x .tx .0)) 0 (keysOf (l .roster)) ≡ Nothing
+          missed : place (is (numberOf (x .tx))) 0 (keysOf (l .roster)) ≡ Nothing
           missed = rw same (sym q ∙ u)
 
           unknown : has transactionOf (transactionOf (plainEntry x)) (contents l .entries) ≡ false
           unfolding plainEntry
-          unknown = not-found l h (x .tx .0) missed .known
+          unknown = not-found l h (numberOf (x .tx)) missed .known
 
           good : Good (withEntries (include transactionOf (plainEntry x) (contents l .entries)) (contents l))
           unfolding afterAdmission
@@ -197,7 +199,7 @@ module _ (l : Ledger) (h : Held l) (ws : List ℕ) where
               }
 
           pub admits : (k : ℕ) → k ≡ rank (below t) (keysOf (l .roster)) → (b : Roster) → Inserted (l .roster) k t b → (y : Issuers) → issuers.Holds (withPairs (l .local .0) x (l .issuers)) y →
-              Meets (afterAdmission ws (contents l)) [] [] (says 1 (withParts l b (set (l .entries) (freeSlot (l .roster)) x) y))
+              Meets (afterAdmission ws (contents l)) [] [] (says 1 (withParts l (l .rebuilt) b (set (l .entries) (freeSlot (l .roster)) x) y (l .departures)))
           unfolding afterAdmission
           admits k v b op y i =
               let taken =

@@ -13,7 +13,6 @@ use Rattle.lists.proofs.Order.{ascending-include}
 use Rattle.lists.specs.Lists.{at, has, change}
 use Rattle.lists.proofs.Keep.{length-changeIf}
 use Rattle.rules.specs.Numbers.{isTime, isShard}
-use Rattle.rules.specs.Plain as plain
 use Rattle.rules.specs.Plain.{shardOf, withDepartures}
 use Rattle.rules.specs.Outcome.{done, _gives_then_}
 use Rattle.rules.specs.Calls.{terminal, stamp, stamped, departed, terminalRefusal, afterTerminal, stampRefusal, afterStamp}
@@ -23,10 +22,10 @@ use Rattle.store.specs.declared.departures.Departures.{Departures}
 use Rattle.store.specs.Departures as departures
 use Rattle.store.specs.Departures.{onFile}
 use Rattle.ledger.specs.declared.Ledger.{Ledger}
-use Rattle.ledger.specs.Contents.{contents, Held}
-use Rattle.ledger.specs.Meets.{Meets}
-use Rattle.ledger.proofs.Lift.{filed, withFile}
-use Rattle.ledger.proofs.Meeting.{refuses, passes, silent, good-after, says, saysNo}
+use Rattle.ledger.specs.Contents.{contents, Held, withParts}
+use Rattle.ledger.specs.Meets.{Meets, says, saysNo}
+use Rattle.ledger.proofs.Lift.{filed}
+use Rattle.ledger.proofs.Meeting.{refuses, passes, silent, good-after}
 use Rattle.calls.specs.Terminals.{isUntil, wordsRefusal, filedAs}
 
 module _ (l : Ledger) (h : Held l) (shard : ℕ) where
@@ -38,12 +37,12 @@ module _ (l : Ledger) (h : Held l) (shard : ℕ) where
     stamp-refused (suc n) e p = refuses n l [] (stampRefusal shard until) _ (saysNo (suc n) l) h (sym e) refl
 
     pub stamp-known : stampRefusal shard until ≡ 0 → (x : Departures) → departures.Holds (change shardOf shard (stamped until) (onFile (l .departures))) x →
-        Meets (afterStamp shard until (contents l)) [] [] (says 0 (withFile l x))
+        Meets (afterStamp shard until (contents l)) [] [] (says 0 (withParts l (l .rebuilt) (l .roster) (l .entries) (l .issuers) x))
     unfolding afterStamp contents
     stamp-known none x f =
         let o = done [] (withDepartures (change shardOf shard (stamped until) (contents l .departures)) (contents l)) in
-        passes (stampRefusal shard until) (contents l) o [] [] (says 0 (withFile l x)) none
-        (silent (withFile l x) _ _ (filed l h _ x f (good-after (stampRefusal shard until) (contents l) o none (step-good (stamp shard until) tt (contents l) (h .good)))) refl)
+        passes (stampRefusal shard until) (contents l) o [] [] (says 0 (withParts l (l .rebuilt) (l .roster) (l .entries) (l .issuers) x)) none
+        (silent (withParts l (l .rebuilt) (l .roster) (l .entries) (l .issuers) x) _ _ (filed l h _ x f (good-after (stampRefusal shard until) (contents l) o none (step-good (stamp shard until) tt (contents l) (h .good)))) refl)
 
   -- Terminal.
   module _ (cut isStamped until : ℕ) where
@@ -107,15 +106,15 @@ module _ (l : Ledger) (h : Held l) (shard : ℕ) where
         where
           go : (b : Bool) → Good (withDepartures (cond b (departed shard cut (contents l .departures)) (change shardOf shard (stamped until) (departed shard cut (contents l .departures)))) (contents l)) →
               length (departed shard cut (contents l .departures)) ≤ 32
-          go true g = g .departureCount
-          go false g = omega (arith, g .departureCount, length-changeIf (at shardOf shard) (stamped until) (departed shard cut (contents l .departures)))
+          go true g = g .departures .count
+          go false g = omega (arith, g .departures .count, length-changeIf (at shardOf shard) (stamped until) (departed shard cut (contents l .departures)))
 
       pub terminal-filed : (x : Departures) → departures.Holds (filedAs shard cut isStamped until (onFile (l .departures))) x →
-          Meets (afterTerminal shard cut isStamped until (contents l)) [] [] (says 0 (withFile l x))
+          Meets (afterTerminal shard cut isStamped until (contents l)) [] [] (says 0 (withParts l (l .rebuilt) (l .roster) (l .entries) (l .issuers) x))
       unfolding afterTerminal contents
       terminal-filed x f =
-          passes (terminalRefusal shard cut isStamped until (contents l)) (contents l) (done [] _) [] [] (says 0 (withFile l x)) none
-          (silent (withFile l x) _ _ (filed l h _ x f good) refl)
+          passes (terminalRefusal shard cut isStamped until (contents l)) (contents l) (done [] _) [] [] (says 0 (withParts l (l .rebuilt) (l .roster) (l .entries) (l .issuers) x)) none
+          (silent (withParts l (l .rebuilt) (l .roster) (l .entries) (l .issuers) x) _ _ (filed l h _ x f good) refl)
 
 -- a shard put on file unstamped, and stamped
 module _ (shard cut isStamped until : ℕ) (d : Departures) where
@@ -131,7 +130,7 @@ module _ (shard cut isStamped until : ℕ) (d : Departures) where
 
 pub file-rises : (l : Ledger) → Held l → departures.Rising (l .departures)
 unfolding contents
-file-rises l h = h .good .departureOrder
+file-rises l h = h .good .departures .rows .order
 
 -- the words' lines of a terminal's table, one by one
 module _ (shard cut isStamped until : ℕ) where

@@ -20,8 +20,8 @@ use Rattle.store.specs.Issuers as issuers
 use Rattle.store.specs.Departures as departures
 use Rattle.ledger.specs.declared.Ledger.{Ledger}
 use Rattle.ledger.specs.Contents.{contents, Held}
-use Rattle.ledger.specs.Meets.{Meets}
-use Rattle.ledger.proofs.Meeting.{passes, silent, says, saysNo}
+use Rattle.ledger.specs.Meets.{Meets, says, saysNo}
+use Rattle.ledger.proofs.Meeting.{passes, silent}
 use Rattle.calls.specs.Fresh.{Fresh}
 
 pub every-replicate : (n : ℕ) (e : Entry) → Fits e → Every Fits (replicate n e)
@@ -59,7 +59,7 @@ module _ (local v c s : ℕ) where
   unfolding making
   not-made n l f e =
       rw e
-      (record { refused = refl; answer = refl; fallen = refl; ledger = f .contents; wrote = refl; held = fresh-held 1 1 1 1 l f (making-good 1 1 1 1) })
+      (record { refused = refl; answers = refl; ledger = f .contents; wrote = refl; held = fresh-held 1 1 1 1 l f (making-good 1 1 1 1) })
 
   -- the two lines of the table, and neither
   pub no-shard : isShard local ≡ false → makingRefusal local v c s ≡ 1

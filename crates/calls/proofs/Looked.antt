@@ -1,9 +1,9 @@
 -- An entry looked up and put back: where nothing was found it is as it was, and else it is changed as the call says.
 -- Assumes nothing.
-use Prim.Native.Nat.{ℕ, zero, suc, _≤_, _<_}
-use mathlib.Core.Path.{_≡_, refl, ap, _∙_, subst}
+use Prim.Native.Nat.{ℕ, _≤_, _<_}
+use mathlib.Core.Path.{_≡_, ap, _∙_, subst}
 use mathlib.Core.Bool.{Bool, true, false}
-use mathlib.Core.List.{List, [], _∷_}
+use mathlib.Core.List.{[]}
 use native.Mathlib.Omega.{arith}
 use lib.ListN.{getD, set}
 use Rattle.lists.specs.Lists.{Ascending}
@@ -11,7 +11,7 @@ use Rattle.lists.specs.Arrays.{place}
 use Rattle.lists.specs.declared.Found.{Found}
 use Rattle.lists.specs.declared.Found.the-variants.{At, Nothing}
 use Rattle.lists.proofs.Distinct.{every-at}
-use Rattle.lists.proofs.Maps.{getD-any}
+use Rattle.lists.proofs.Maps.{getD-any, put-back}
 use Rattle.lists.proofs.Order.{length-include}
 use Rattle.rules.specs.Numbers.{isWord, isShard}
 use Rattle.rules.specs.Plain.{Absence, absenceKey}
@@ -24,16 +24,11 @@ use Rattle.entry.specs.Entry.{plainEntry, absencesOf, Fits, Means, RoomForAbsen
 use Rattle.entry.proofs.Absent.{length-absences}
 use Rattle.store.specs.Roster.{keysOf, is}
 use Rattle.ledger.specs.declared.Ledger.{Ledger}
-use Rattle.ledger.specs.Contents.{Held, contents}
-use Rattle.ledger.specs.Meets.{Meets}
-use Rattle.ledger.proofs.Lift.{found-at}
-use Rattle.calls.specs.Looking.{slotOf, puts, Looked}
+use Rattle.ledger.specs.Contents.{Held, contents, slotAt, lyingAt, storing}
+use Rattle.ledger.specs.Meets.{Meets, ends, says}
+use Rattle.ledger.proofs.Places.{found-at}
+use Rattle.calls.specs.Looking.{slotOf, Looked}
 use Rattle.calls.proofs.Single.{absence-read, absence-full, absence-new, mark-owed}
-
-put-back : {A : Type 0} (xs : List A) (i : ℕ) (d : A) → set xs i (getD xs i d) ≡ xs
-put-back [] i d = refl
-put-back (x ∷ xs) zero d = refl
-put-back (x ∷ xs) (suc i) d = ap (_∷_ x) (put-back xs i d)
 
 -- What a lookup says of where the entry lies.
 module _ (l : Ledger) (h : Held l) (t : ℕ) (f : Found) (found : place (is t) 0 (keysOf (l .roster)) ≡ f) where
@@ -70,7 +65,7 @@ room-for e a f r b = record { fits = f; rising = r; room = omega (arith, length-
 
 -- an entry put back as it was
 pub unmoved : (n m : ℕ) (l : Ledger) (t : ℕ) (f : Found) (e : Entry) → Looked l t f e → (o : Outcome) →
-    Meets o [] [] (record { refused = n; answer = m; fallen = 0; ledger = l }) → Meets o [] [] (puts n m (slotOf (l .roster .slots) f) e l)
+    Meets o [] [] (ends n m l) → Meets o [] [] (ends n m (storing l (slotOf (l .roster .slots) f) e))
 unmoved n m l t f e w o r =
     let s = slotOf (l .roster .slots) f in
     let same : set (l .entries) s e ≡ l .entries = ap (set (l .entries) s) (w .lies e) ∙ put-back (l .entries) s e in
@@ -78,24 +73,24 @@ unmoved n m l t f e w o r =
 
 module _ (l : Ledger) (t k : ℕ) (e : Entry) (w : Looked l t (At k) e) where
   -- what holds of the entry holds of what lies in the slot
-  lying : (P : Entry → Type 0) → P e → P (getD (l .entries) (getD (l .roster .slots) k 0) e)
+  lying : (P : Entry → Type 0) → P e → P (lyingAt l k e)
   lying P p = subst P (w .lies e) p
 
   module _ (a : Absence) (q : isShard (a .shard) ≡ true) where
-    pub heard-read : isRead a (plainEntry e) ≡ true → Meets (afterAbsence t a (contents l)) [] [] (puts 0 0 (getD (l .roster .slots) k 0) e l)
+    pub heard-read : isRead a (plainEntry e) ≡ true → Meets (afterAbsence t a (contents l)) [] [] (says 0 (storing l (slotAt l k) e))
     heard-read i = unmoved 0 0 l t (At k) e w _ (absence-read l (w .held) t a k e q (w .found) (lying (λ x. isRead a (plainEntry x) ≡ true) i))
 
-    pub heard-full : isRead a (plainEntry e) ≡ false → 8 ≤ e .«absences_len» → Meets (afterAbsence t a (contents l)) [] [] (puts 7 0 (getD (l .roster .slots) k 0) e l)
+    pub heard-full : isRead a (plainEntry e) ≡ false → 8 ≤ e .«absences_len» → Meets (afterAbsence t a (contents l)) [] [] (ends 7 0 (storing l (slotAt l k) e))
     heard-full i b =
         unmoved 7 0 l t (At k) e w _
         (absence-full l (w .held) t a k e q (w .found) (lying (λ x. isRead a (plainEntry x) ≡ false) i) (lying (λ x. 8 ≤ x .«absences_len») b))
 
     pub heard-new : isRead a (plainEntry e) ≡ false → e .«absences_len» < 8 → isWord (a .key) ≡ true → (x : Entry) → Means (readAbsent a (plainEntry e)) x →
-        Meets (afterAbsence t a (contents l)) [] [] (puts 0 1 (getD (l .roster .slots) k 0) x l)
+        Meets (afterAbsence t a (contents l)) [] [] (says 1 (storing l (slotAt l k) x))
     heard-new i b v x m =
         absence-new l (w .held) t a k e q (w .found) (lying (λ y. isRead a (plainEntry y) ≡ false) i) (lying (λ y. y .«absences_len» < 8) b) v x
         (lying (λ y. Means (readAbsent a (plainEntry y)) x) m)
 
   pub mark-heard : (r : ℕ) (b : Bool) (x : Entry) → Means (marked (l .local .0) r b (plainEntry e)) x →
-      Meets (afterMark r t b (contents l)) [] [] (puts 0 0 (getD (l .roster .slots) k 0) x l)
+      Meets (afterMark r t b (contents l)) [] [] (says 0 (storing l (slotAt l k) x))
   mark-heard r b x m = mark-owed l (w .held) t r b k e x (w .found) (lying (λ y. Means (marked (l .local .0) r b (plainEntry y)) x) m)

@@ -12,6 +12,7 @@ use Rattle.lists.proofs.Order.{ascending-includeAll}
 use Rattle.rules.specs.Numbers.{recordKey}
 use Rattle.rules.specs.Plain.{Edge}
 use Rattle.rules.specs.Index.{Pair, pairKey}
+use Rattle.types.specs.Transactions.{numberOf}
 use Rattle.entry.specs.declared.Entry.{Entry}
 use Rattle.entry.specs.Entry.{plainEntry, edgesOf}
 use Rattle.entry.proofs.Edges.{edges-cons, edges-end}
@@ -45,7 +46,7 @@ module _ {A : Type 0} (key : A → ℕ) where
 -- the pairs of an entry's edges from a place on
 abbrev pub pairsFrom : ℕ → Entry → ℕ → List Pair
 pairsFrom local e i =
-    map (λ (r : ℕ). record { key = r; transaction = e .tx .0 }) (map (λ (g : Edge). recordKey (g .id)) (keep (λ g. eqb (g .from) local) (drop i (edgesOf e))))
+    map (λ (r : ℕ). record { key = r; transaction = numberOf (e .tx) }) (map (λ (g : Edge). recordKey (g .id)) (keep (λ g. eqb (g .from) local) (drop i (edgesOf e))))
 
 -- x is x₀ with the pairs of the edges from i on put in
 pub record NamedFrom (x₀ : Issuers) (e : Entry) (local : ℕ) (x : Issuers) (i : ℕ) : Type 0 where
@@ -66,7 +67,7 @@ module _ (x₀ : Issuers) (e : Entry) (local : ℕ) (x : Issuers) (i : ℕ) (n :
   next : i - 1 + 1 ≡ i
   next = omega arith
 
-  hit : eqb (getD (e .froms) (i - 1) 0) local ≡ true → pairsFrom local e (i - 1) ≡ pair (recordKey (getD (e .ids) (i - 1) 0)) (e .tx .0) ∷ pairsFrom local e i
+  hit : eqb (getD (e .froms) (i - 1) 0) local ≡ true → pairsFrom local e (i - 1) ≡ pair (recordKey (getD (e .ids) (i - 1) 0)) (numberOf (e .tx)) ∷ pairsFrom local e i
   hit t = rw (edges-cons e (n .fits) (i - 1) (omega (arith, v .low)), t, next)
 
   miss : eqb (getD (e .froms) (i - 1) 0) local ≡ false → pairsFrom local e (i - 1) ≡ pairsFrom local e i
@@ -76,20 +77,20 @@ module _ (x₀ : Issuers) (e : Entry) (local : ℕ) (x : Issuers) (i : ℕ) (n :
   named-rising = rw (v .holds .pairs) (ascending-includeAll pairKey (pairsFrom local e i) (pairsIn x₀) (n .rising))
 
   module _ (r : ℕ) (q : r ≡ recordKey (getD (e .ids) (i - 1) 0)) (t : eqb (getD (e .froms) (i - 1) 0) local ≡ true) where
-    more : include pairKey (pair r (e .tx .0)) (pairsIn x) ≡ includeAll pairKey (pairsFrom local e (i - 1)) (pairsIn x₀)
+    more : include pairKey (pair r (numberOf (e .tx))) (pairsIn x) ≡ includeAll pairKey (pairsFrom local e (i - 1)) (pairsIn x₀)
     more = rw (q, v .holds .pairs, hit t)
 
-    pub named-room : roomFor x r (e .tx .0)
+    pub named-room : roomFor x r (numberOf (e .tx))
     unfolding plainEntry
     named-room =
         omega (
           arith,
           n .room,
           ap length more,
-          fewer-from pairKey (λ (r : ℕ). record { key = r; transaction = e .tx .0 }) (λ (g : Edge). recordKey (g .id)) (λ g. eqb (g .from) local) (i - 1) (edgesOf e) (pairsIn x₀),
+          fewer-from pairKey (λ (r : ℕ). record { key = r; transaction = numberOf (e .tx) }) (λ (g : Edge). recordKey (g .id)) (λ g. eqb (g .from) local) (i - 1) (edgesOf e) (pairsIn x₀),
         )
 
-    pub named-one : (y : Issuers) → Holds (include pairKey (pair r (e .tx .0)) (pairsIn x)) y → NamedFrom x₀ e local y (i - 1)
+    pub named-one : (y : Issuers) → Holds (include pairKey (pair r (numberOf (e .tx))) (pairsIn x)) y → NamedFrom x₀ e local y (i - 1)
     named-one y k = record { low = omega (arith, v .low); holds = record { sound = k .sound; pairs = k .pairs ∙ more } }
 
   pub named-other : eqb (getD (e .froms) (i - 1) 0) local ≡ false → NamedFrom x₀ e local x (i - 1)

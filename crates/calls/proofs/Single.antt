@@ -6,7 +6,7 @@ use mathlib.Core.Bool.{Bool, true, false, _&&_}
 use mathlib.Core.List.{[], _∷_}
 use mathlib.Core.Option.{none}
 use native.Mathlib.Omega.{arith}
-use lib.ListN.{length, getD, set}
+use lib.ListN.{length}
 use borrow.Author.Tests.{lt-ltb, le-ltb, le-leb, lt-leb}
 use Rattle.lists.specs.Lists.{keep, change}
 use Rattle.lists.specs.Arrays.{place}
@@ -15,7 +15,6 @@ use Rattle.lists.proofs.Tests.{by-cond}
 use Rattle.lists.proofs.Order.{include-known}
 use Rattle.lists.proofs.Change.{change-same}
 use Rattle.rules.specs.Numbers.{isWord, isShard}
-use Rattle.rules.specs.Plain as plain
 use Rattle.rules.specs.Plain.{Absence, transactionOf, absenceKey, withEntries, entryOf, isLeg, isSettling, issues}
 use Rattle.rules.specs.Entries.{certified, withAbsences, readAbsent, isRead, marked}
 use Rattle.rules.specs.Outcome.{done, yesNo}
@@ -31,10 +30,11 @@ use Rattle.store.specs.Roster.{keysOf, is, Removed}
 use Rattle.store.specs.Issuers as issuers
 use Rattle.store.specs.Issuers.{isNot, pairsIn}
 use Rattle.ledger.specs.declared.Ledger.{Ledger}
-use Rattle.ledger.specs.Contents.{contents, Held}
-use Rattle.ledger.specs.Meets.{Meets}
-use Rattle.ledger.proofs.Lift.{withParts, found-at, not-found, changed, let-go, unnamed}
-use Rattle.ledger.proofs.Meeting.{refuses, passes, answers, silent, good-after, says, saysNo, stays}
+use Rattle.ledger.specs.Contents.{contents, Held, withParts, storing, slotAt, lyingAt}
+use Rattle.ledger.specs.Meets.{Meets, says, saysNo}
+use Rattle.ledger.proofs.Places.{found-at, not-found}
+use Rattle.ledger.proofs.Lift.{changed, let-go}
+use Rattle.ledger.proofs.Meeting.{refuses, passes, answers, silent, good-after, stays}
 
 -- Forget.
 module _ (l : Ledger) (h : Held l) (t : ℕ) where
@@ -45,12 +45,12 @@ module _ (l : Ledger) (h : Held l) (t : ℕ) where
       rw (w .known, w .gone) (answers 0 l (contents l) (says 0 l) (stays l h (contents l) refl) refl)
 
   pub forget-owed : (k : ℕ) → place (is t) 0 (keysOf (l .roster)) ≡ At k → (r : Roster) (x : Issuers) → Removed (l .roster) k r →
-      issuers.Holds (keep (isNot t) (pairsIn (l .issuers))) x → Meets (afterForget t (contents l)) [] [] (says 1 (withParts l r (l .entries) x))
+      issuers.Holds (keep (isNot t) (pairsIn (l .issuers))) x → Meets (afterForget t (contents l)) [] [] (says 1 (withParts l (l .rebuilt) r (l .entries) x (l .departures)))
   unfolding afterForget
   forget-owed k e r x c i =
       let a = found-at l h t k e in
-      let b = let-go l h t k r x e c (unnamed l h t x i) (step-good (forget t) tt (contents l) (h .good)) in
-      rw (a .known) (answers 1 (withParts l r (l .entries) x) _ _ b refl)
+      let b = let-go l h t k r x e c i (step-good (forget t) tt (contents l) (h .good)) in
+      rw (a .known) (answers 1 (withParts l (l .rebuilt) r (l .entries) x (l .departures)) _ _ b refl)
 
   -- Fated.
   pub fated-unknown : place (is t) 0 (keysOf (l .roster)) ≡ Nothing → Meets (afterFated t (contents l)) [] [] (says 0 l)
@@ -58,18 +58,18 @@ module _ (l : Ledger) (h : Held l) (t : ℕ) where
   fated-unknown e = rw (not-found l h t e .got) (answers 0 l (contents l) (says 0 l) (stays l h (contents l) refl) refl)
 
   pub fated-other : (k : ℕ) (d : Entry) → place (is t) 0 (keysOf (l .roster)) ≡ At k →
-      isLeg (plainEntry (getD (l .entries) (getD (l .roster .slots) k 0) d) .part) ≡ false → Meets (afterFated t (contents l)) [] [] (says 0 l)
+      isLeg (plainEntry (lyingAt l k d) .part) ≡ false → Meets (afterFated t (contents l)) [] [] (says 0 l)
   unfolding afterFated
   fated-other k d e q = rw (found-at l h t k e .got d, q) (answers 0 l (contents l) (says 0 l) (stays l h (contents l) refl) refl)
 
   pub fated-leg : (k : ℕ) (d : Entry) → place (is t) 0 (keysOf (l .roster)) ≡ At k →
-      isLeg (plainEntry (getD (l .entries) (getD (l .roster .slots) k 0) d) .part) ≡ true → (r : Roster) (x : Issuers) → Removed (l .roster) k r →
-      issuers.Holds (keep (isNot t) (pairsIn (l .issuers))) x → Meets (afterFated t (contents l)) [] [] (says 2 (withParts l r (l .entries) x))
+      isLeg (plainEntry (lyingAt l k d) .part) ≡ true → (r : Roster) (x : Issuers) → Removed (l .roster) k r →
+      issuers.Holds (keep (isNot t) (pairsIn (l .issuers))) x → Meets (afterFated t (contents l)) [] [] (says 2 (withParts l (l .rebuilt) r (l .entries) x (l .departures)))
   unfolding afterFated afterForget
   fated-leg k d e q r x c i =
       let a = found-at l h t k e in
-      let b = let-go l h t k r x e c (unnamed l h t x i) (step-good (forget t) tt (contents l) (h .good)) in
-      rw (a .got d, q) (answers 2 (withParts l r (l .entries) x) _ _ b refl)
+      let b = let-go l h t k r x e c i (step-good (forget t) tt (contents l) (h .good)) in
+      rw (a .got d, q) (answers 2 (withParts l (l .rebuilt) r (l .entries) x (l .departures)) _ _ b refl)
 
   -- Certify.
   module _ (code : ℕ) where
@@ -87,8 +87,8 @@ module _ (l : Ledger) (h : Held l) (t : ℕ) where
         (rw (not-found l h t e .changed (certified code)) (silent l (contents l) (says 0 l) (stays l h (contents l) refl) refl))
 
     pub certify-owed : code ≤ 2 → (k : ℕ) (d x : Entry) → place (is t) 0 (keysOf (l .roster)) ≡ At k →
-        Means (certified code (plainEntry (getD (l .entries) (getD (l .roster .slots) k 0) d))) x →
-        Meets (afterCertify t code (contents l)) [] [] (says 0 (withParts l (l .roster) (set (l .entries) (getD (l .roster .slots) k 0) x) (l .issuers)))
+        Means (certified code (plainEntry (lyingAt l k d))) x →
+        Meets (afterCertify t code (contents l)) [] [] (says 0 (storing l (slotAt l k) x))
     unfolding afterCertify
     certify-owed q k d x e m =
         let o = done [] (withEntries (change transactionOf t (certified code) (contents l .entries)) (contents l)) in
@@ -103,8 +103,8 @@ module _ (l : Ledger) (h : Held l) (t : ℕ) where
         rw (not-found l h t e .changed (marked (contents l .local) r isReturn)) (silent l (contents l) (says 0 l) (stays l h (contents l) refl) refl)
 
     pub mark-owed : (k : ℕ) (d x : Entry) → place (is t) 0 (keysOf (l .roster)) ≡ At k →
-        Means (marked (l .local .0) r isReturn (plainEntry (getD (l .entries) (getD (l .roster .slots) k 0) d))) x →
-        Meets (afterMark r t isReturn (contents l)) [] [] (says 0 (withParts l (l .roster) (set (l .entries) (getD (l .roster .slots) k 0) x) (l .issuers)))
+        Means (marked (l .local .0) r isReturn (plainEntry (lyingAt l k d))) x →
+        Meets (afterMark r t isReturn (contents l)) [] [] (says 0 (storing l (slotAt l k) x))
     unfolding afterMark contents
     mark-owed k d x e m =
         silent _ _ _
@@ -131,7 +131,7 @@ module _ (l : Ledger) (h : Held l) (t : ℕ) where
 
     module _ (k : ℕ) (d : Entry) (q : isShard (a .shard) ≡ true) (e : place (is t) 0 (keysOf (l .roster)) ≡ At k) where
       abbrev old : Entry
-      old = getD (l .entries) (getD (l .roster .slots) k 0) d
+      old = lyingAt l k d
 
       pub absence-read : isRead a (plainEntry old) ≡ true → Meets (afterAbsence t a (contents l)) [] [] (says 0 l)
       unfolding afterAbsence
@@ -139,7 +139,7 @@ module _ (l : Ledger) (h : Held l) (t : ℕ) where
           let w = found-at l h t k e in
           let x = plainEntry old in
           let same : readAbsent a x ≡ x = ap (λ m. withAbsences m x) (include-known absenceKey a (x .absences) (w .good d .absenceOrder) i) in
-          rw (q, w .got d, i, change-same transactionOf t (readAbsent a) x (contents l .entries) (h .good .entryOrder) (w .got d) same)
+          rw (q, w .got d, i, change-same transactionOf t (readAbsent a) x (contents l .entries) (h .good .entries .rows .order) (w .got d) same)
           (answers 0 l (contents l) (says 0 l) (stays l h (contents l) refl) refl)
 
       abbrev size : length (plainEntry old .absences) ≡ old .«absences_len»
@@ -152,7 +152,7 @@ module _ (l : Ledger) (h : Held l) (t : ℕ) where
           refuses 6 l [] (absenceRefusal t a (contents l)) _ (saysNo 7 l) h (rw (q, found-at l h t k e .got d, i, le-leb 8 (length (plainEntry old .absences)) (omega (arith, size)))) refl
 
       pub absence-new : isRead a (plainEntry old) ≡ false → old .«absences_len» < 8 → isWord (a .key) ≡ true → (x : Entry) → Means (readAbsent a (plainEntry old)) x →
-          Meets (afterAbsence t a (contents l)) [] [] (says 1 (withParts l (l .roster) (set (l .entries) (getD (l .roster .slots) k 0) x) (l .issuers)))
+          Meets (afterAbsence t a (contents l)) [] [] (says 1 (storing l (slotAt l k) x))
       unfolding afterAbsence
       absence-new i f w x m =
           let o = done (yesNo (isNew a (entryOf t (contents l))) ∷ []) (withEntries (change transactionOf t (readAbsent a) (contents l .entries)) (contents l)) in

@@ -3,7 +3,7 @@ use Prim.Native.Nat.{ℕ}
 use mathlib.Core.Path.{_≡_}
 use mathlib.Core.Bool.{Bool}
 use mathlib.Core.List.{List, []}
-use lib.ListN.{getD, set}
+use lib.ListN.{getD}
 use Rattle.lists.specs.Arrays.{place}
 use Rattle.lists.specs.declared.Found.{Found}
 use Rattle.lists.specs.declared.Found.the-variants.{At, Nothing}
@@ -12,35 +12,14 @@ use Rattle.rules.specs.Calls.{afterAbsence, afterMark}
 use Rattle.entry.specs.declared.Entry.{Entry}
 use Rattle.store.specs.Roster.{keysOf, is}
 use Rattle.ledger.specs.declared.Ledger.{Ledger}
-use Rattle.ledger.specs.declared.Done.{Done}
-use Rattle.ledger.specs.Contents.{Held, contents}
-use Rattle.ledger.specs.Meets.{Meets}
+use Rattle.ledger.specs.Contents.{Held, contents, storing}
+use Rattle.ledger.specs.Meets.{Meets, ends, says}
 use Rattle.calls.specs.declared.certificate.AbsenceOutcome.{AbsenceOutcome}
 
 -- the slot of what was found, and the first slot for nothing
 abbrev pub slotOf : List ℕ → Found → ℕ
 slotOf slots (At k) = getD slots k 0
 slotOf slots Nothing = getD slots 0 0
-
--- a call that says so, with an entry put into a slot
-abbrev pub puts : ℕ → ℕ → ℕ → Entry → Ledger → Done
-puts refused answer slot e l =
-    record {
-      refused = refused;
-      answer = answer;
-      fallen = 0;
-      ledger = record {
-        local = l .local;
-        validity = l .validity;
-        «core_span» = l .«core_span»;
-        «leg_span» = l .«leg_span»;
-        rebuilt = l .rebuilt;
-        roster = l .roster;
-        entries = set (l .entries) slot e;
-        issuers = l .issuers;
-        departures = l .departures;
-      };
-    }
 
 -- in l, looking up t gave f, and e lies there
 pub record Looked (l : Ledger) (t : ℕ) (f : Found) (e : Entry) : Type 0 where
@@ -51,9 +30,9 @@ pub record Looked (l : Ledger) (t : ℕ) (f : Found) (e : Entry) : Type 0 where
 -- what the entry says to an absence is what the call says, in every ledger where it lies
 abbrev pub IsAbsenceOutcome : Absence → Found → Entry → AbsenceOutcome → Type 0
 IsAbsenceOutcome a f e r =
-    (l : Ledger) (t : ℕ) → Looked l t f e → Meets (afterAbsence t a (contents l)) [] [] (puts (r .refused) (r .answer) (slotOf (l .roster .slots) f) (r .entry) l)
+    (l : Ledger) (t : ℕ) → Looked l t f e → Meets (afterAbsence t a (contents l)) [] [] (ends (r .refused) (r .answer) (storing l (slotOf (l .roster .slots) f) (r .entry)))
 
 -- and the same for a mark
 abbrev pub TakesMark : ℕ → Bool → ℕ → Found → Entry → Entry → Type 0
 TakesMark key isReturn local f e x =
-    (l : Ledger) (t : ℕ) → l .local .0 ≡ local → Looked l t f e → Meets (afterMark key t isReturn (contents l)) [] [] (puts 0 0 (slotOf (l .roster .slots) f) x l)
+    (l : Ledger) (t : ℕ) → l .local .0 ≡ local → Looked l t f e → Meets (afterMark key t isReturn (contents l)) [] [] (says 0 (storing l (slotOf (l .roster .slots) f) x))

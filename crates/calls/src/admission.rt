@@ -98,8 +98,7 @@ pub fn register_committed(mut ledger: Ledger, words: &[u64]) -> Done
     }
     Done {
         refused,
-        answer,
-        fallen: 0,
+        answers: [answer, 0, 0],
         ledger,
     }
 }

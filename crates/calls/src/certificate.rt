@@ -10,6 +10,7 @@ ghost use Rattle.entry.specs.Entry.{absence, absencesOf, Fits};
 ghost use Rattle.ledger.specs.Contents.{Held, contents};
 ghost use Rattle.ledger.specs.Meets.{Meets};
 ghost use Rattle.calls.specs.Looking.{IsAbsenceOutcome};
+ghost use Rattle.types.specs.Transactions.{numberOf};
 use crate::looking::slot_of;
 use entry::Entry;
 use ledger::Done;
@@ -22,7 +23,7 @@ use types::is_shard;
 // How far this shard has spoken for a transaction: the greater code is kept.
 pub fn certify(mut ledger: Ledger, tx: Transaction, code: u64) -> Done
     requires { ⌜ Held ledger ⌝ }
-    ensures { λ r. ⌜ Meets (afterCertify (tx .0) code (contents ledger)) [] [] r ⌝ }
+    ensures { λ r. ⌜ Meets (afterCertify (numberOf tx) code (contents ledger)) [] [] r ⌝ }
 {
     let mut refused: u64 = 0;
     if 2 < code {
@@ -37,8 +38,7 @@ pub fn certify(mut ledger: Ledger, tx: Transaction, code: u64) -> Done
     }
     Done {
         refused,
-        answer: 0,
-        fallen: 0,
+        answers: [0, 0, 0],
         ledger,
     }
 }
@@ -94,7 +94,7 @@ fn absence_outcome(found: Found, e: Entry, shard: Shard, key: u64) -> AbsenceOut
 // A sibling's cell was read absent: answers whether that is new.
 pub fn record_absence(mut ledger: Ledger, tx: Transaction, shard: Shard, key: u64) -> Done
     requires { ⌜ Held ledger ⌝ }
-    ensures { λ r. ⌜ Meets (afterAbsence (tx .0) (absence (shard .0) key) (contents ledger)) [] [] r ⌝ }
+    ensures { λ r. ⌜ Meets (afterAbsence (numberOf tx) (absence (shard .0) key) (contents ledger)) [] [] r ⌝ }
 {
     let roster = ledger.roster;
     let found = roster.find(tx);
@@ -105,8 +105,7 @@ pub fn record_absence(mut ledger: Ledger, tx: Transaction, shard: Shard, key: u6
     ledger.entries[slot] = f;
     Done {
         refused: outcome.refused,
-        answer: outcome.answer,
-        fallen: 0,
+        answers: [outcome.answer, 0, 0],
         ledger,
     }
 }

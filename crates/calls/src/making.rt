@@ -58,8 +58,7 @@ pub fn new(local: Shard, validity: u64, core_span: u64, leg_span: u64) -> Done
         let ledger = empty(Shard(1), 1, 1, 1);
         return Done {
             refused: 1,
-            answer: 0,
-            fallen: 0,
+            answers: [0, 0, 0],
             ledger,
         };
     }
@@ -67,16 +66,14 @@ pub fn new(local: Shard, validity: u64, core_span: u64, leg_span: u64) -> Done
         let ledger = empty(Shard(1), 1, 1, 1);
         return Done {
             refused: 2,
-            answer: 0,
-            fallen: 0,
+            answers: [0, 0, 0],
             ledger,
         };
     }
     let ledger = empty(local, validity, core_span, leg_span);
     Done {
         refused: 0,
-        answer: 0,
-        fallen: 0,
+        answers: [0, 0, 0],
         ledger,
     }
 }

@@ -3,6 +3,7 @@ ghost use mathlib.Core.List.{[]};
 ghost use Rattle.rules.specs.Calls.{afterForget, afterFated};
 ghost use Rattle.ledger.specs.Contents.{Held, contents};
 ghost use Rattle.ledger.specs.Meets.{Meets};
+ghost use Rattle.types.specs.Transactions.{numberOf};
 use ledger::Done;
 use ledger::Ledger;
 use lists::Found;
@@ -11,7 +12,7 @@ use types::Transaction;
 // Lets a transaction go with no outcome, and answers whether it was owed.
 pub fn forget(mut ledger: Ledger, tx: Transaction) -> Done
     requires { ⌜ Held ledger ⌝ }
-    ensures { λ r. ⌜ Meets (afterForget (tx .0) (contents ledger)) [] [] r ⌝ }
+    ensures { λ r. ⌜ Meets (afterForget (numberOf tx) (contents ledger)) [] [] r ⌝ }
 {
     let mut answer: u64 = 0;
     let roster = ledger.roster;
@@ -23,8 +24,7 @@ pub fn forget(mut ledger: Ledger, tx: Transaction) -> Done
     }
     Done {
         refused: 0,
-        answer,
-        fallen: 0,
+        answers: [answer, 0, 0],
         ledger,
     }
 }
@@ -32,7 +32,7 @@ pub fn forget(mut ledger: Ledger, tx: Transaction) -> Done
 // A leg whose row a fate ends is let go as aborted, 2; all else stays, 0.
 pub fn fated(mut ledger: Ledger, tx: Transaction) -> Done
     requires { ⌜ Held ledger ⌝ }
-    ensures { λ r. ⌜ Meets (afterFated (tx .0) (contents ledger)) [] [] r ⌝ }
+    ensures { λ r. ⌜ Meets (afterFated (numberOf tx) (contents ledger)) [] [] r ⌝ }
 {
     let mut answer: u64 = 0;
     let roster = ledger.roster;
@@ -49,8 +49,7 @@ pub fn fated(mut ledger: Ledger, tx: Transaction) -> Done
     }
     Done {
         refused: 0,
-        answer,
-        fallen: 0,
+        answers: [answer, 0, 0],
         ledger,
     }
 }

@@ -10,6 +10,7 @@ ghost use Rattle.entry.specs.Entry.{plainEntry, Fits};
 ghost use Rattle.ledger.specs.Contents.{Held, contents};
 ghost use Rattle.ledger.specs.Meets.{Meets};
 ghost use Rattle.calls.specs.Looking.{TakesMark};
+ghost use Rattle.types.specs.Transactions.{numberOf};
 use crate::looking::slot_of;
 use entry::Entry;
 use ledger::Done;
@@ -35,7 +36,7 @@ fn marked(found: Found, e: Entry, local: Shard, r: RecordKey, is_return: bool) -
 // The record was taken by its consumer.
 pub fn settled(mut ledger: Ledger, r: RecordKey, tx: Transaction) -> Done
     requires { ⌜ Held ledger ⌝ }
-    ensures { λ x. ⌜ Meets (afterMark (r .0) (tx .0) false (contents ledger)) [] [] x ⌝ }
+    ensures { λ x. ⌜ Meets (afterMark (r .0) (numberOf tx) false (contents ledger)) [] [] x ⌝ }
 {
     let roster = ledger.roster;
     let found = roster.find(tx);
@@ -44,8 +45,7 @@ pub fn settled(mut ledger: Ledger, r: RecordKey, tx: Transaction) -> Done
     ledger.entries[slot] = marked(found, e, ledger.local, r, false);
     Done {
         refused: 0,
-        answer: 0,
-        fallen: 0,
+        answers: [0, 0, 0],
         ledger,
     }
 }
@@ -53,7 +53,7 @@ pub fn settled(mut ledger: Ledger, r: RecordKey, tx: Transaction) -> Done
 // The record was taken back: the entry will close as aborted.
 pub fn returned(mut ledger: Ledger, r: RecordKey, tx: Transaction) -> Done
     requires { ⌜ Held ledger ⌝ }
-    ensures { λ x. ⌜ Meets (afterMark (r .0) (tx .0) true (contents ledger)) [] [] x ⌝ }
+    ensures { λ x. ⌜ Meets (afterMark (r .0) (numberOf tx) true (contents ledger)) [] [] x ⌝ }
 {
     let roster = ledger.roster;
     let found = roster.find(tx);
@@ -62,8 +62,7 @@ pub fn returned(mut ledger: Ledger, r: RecordKey, tx: Transaction) -> Done
     ledger.entries[slot] = marked(found, e, ledger.local, r, true);
     Done {
         refused: 0,
-        answer: 0,
-        fallen: 0,
+        answers: [0, 0, 0],
         ledger,
     }
 }

@@ -96,8 +96,7 @@ pub fn record_terminal(
     }
     Done {
         refused,
-        answer: 0,
-        fallen: 0,
+        answers: [0, 0, 0],
         ledger,
     }
 }
@@ -124,8 +123,7 @@ pub fn stamp_terminal(mut ledger: Ledger, shard: Shard, until: Time) -> Done
     }
     Done {
         refused,
-        answer: 0,
-        fallen: 0,
+        answers: [0, 0, 0],
         ledger,
     }
 }

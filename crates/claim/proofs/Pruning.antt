@@ -7,7 +7,7 @@ use mathlib.Core.List.{List, [], _∷_, _++_, append-nil}
 use native.Mathlib.Omega.{arith}
 use lib.Dec.{ltb}
 use borrow.Author.Tests.{ltb-true, ltb-false}
-use lib.ListN.{length, take, drop, getD, set, length-append, length-set}
+use lib.ListN.{length, take, drop, getD, set, length-append, length-take, length-drop, length-set}
 use lib.Seq.{take-suc, take-all, take-nil, take-append-le, length-take-le}
 use Rattle.lists.specs.Lists.{concatMap}
 use Rattle.lists.proofs.Listing.{length-words}
@@ -25,13 +25,13 @@ use Rattle.claim.proofs.InTurn.{prunes-append, reports-append, words-ap
 
 -- what a prune says where the clock is a time and there is room for all
 pub record Prunes (t : ℕ) (p : Plain) (lent after : List ℕ) (r : Done) : Type 0 where
-  pub answer : r .answer ≡ length (reports t p)
-  pub gone : r .fallen ≡ length (fallen t p)
+  pub answer : getD (r .answers) 0 0 ≡ length (reports t p)
+  pub gone : getD (r .answers) 1 0 ≡ length (fallen t p)
   pub ledger : contents (r .ledger) ≡ pruned t p
   pub wrote : after ≡ written (concatMap reportWords (reports t p)) lent
   pub held : Held (r .ledger)
-  pub few : r .answer ≤ r .fallen
-  pub size : r .fallen + length (contents (r .ledger) .entries) ≡ length (p .entries)
+  pub few : getD (r .answers) 0 0 ≤ getD (r .answers) 1 0
+  pub size : getD (r .answers) 1 0 + length (contents (r .ledger) .entries) ≡ length (p .entries)
 
 pub goes-through : (t : ℕ) (p : Plain) (lent after : List ℕ) (r : Done) → isTime t ≡ true → 3 * length (p .entries) ≤ length lent →
     Meets (afterPrune t (length lent) p) lent after r → Prunes t p lent after r
@@ -39,14 +39,16 @@ goes-through t p lent after r v h m =
     let few = reports-few t p in
     let split = fallen-split t p in
     let n = rw (prune-done t (length lent) p v (omega (arith, few, split))) at m in
+    let first : getD (r .answers) 0 0 ≡ length (reports t p) = ap (λ ns. getD ns 0 0) (n .answers) in
+    let second : getD (r .answers) 1 0 ≡ length (fallen t p) = ap (λ ns. getD ns 1 0) (n .answers) in
     record {
-      answer = n .answer;
-      gone = n .fallen;
+      answer = first;
+      gone = second;
       ledger = n .ledger;
       wrote = n .wrote;
       held = n .held;
-      few = omega (arith, n .fallen, n .answer, few);
-      size = ap₂ (λ k q. k + length (q .entries)) (n .fallen) (n .ledger) ∙ split;
+      few = omega (arith, first, second, few);
+      size = ap₂ (λ k q. k + length (q .entries)) second (n .ledger) ∙ split;
     }
 
 -- where the prunes stand after the first i clocks
@@ -74,15 +76,21 @@ kept ts u k p old new next h e g f n = go (ltb (length ts) k) refl
         let same : next ≡ old = n ∙ rw t refl in
         (rw same h, ap contents same ∙ e ∙ ap (λ l. prunes l p) (sym (take-append-le k ts (u ∷ []) (ltb-false (length ts) k t))))
 
+-- a list of which the end was lent and written on keeps its length
+seam : (list after : List ℕ) (n : ℕ) → n ≤ length list → length after ≡ length (take (length list - n) (drop n list)) →
+    length (take n list ++ (after ++ drop (length list - n) (drop n list))) ≡ length list
+seam list after n h e = simp (length-append, length-take, length-drop, e) (omega arith)
+
 pub going-on : (clocks : List ℕ) (start : Plain) (lent list lentCounts counts : List ℕ) (ledger between : Ledger) (gone many i k : ℕ) →
     Going clocks start lent list lentCounts counts ledger between gone many i k → i < length clocks → (after : List ℕ) (r : Done) (next : Ledger) →
     let left = length list - 3 * many in
     let rest = drop (3 * many) list in
     Prunes (getD clocks i 0) (contents ledger) (take left rest) after r → next ≡ cond (ltb i k) (r .ledger) between →
-    length (take (3 * many) list ++ (after ++ drop left rest)) ≡ length lent →
-    Going clocks start lent (take (3 * many) list ++ (after ++ drop left rest)) lentCounts (set (set counts (2 * i) (r .answer)) (2 * i + 1) (r .fallen)) (r .ledger) next
-    (gone + r .fallen) (many + r .answer) (i + 1) k
-going-on clocks start lent list lentCounts counts ledger between gone many i k g h after r new t n same =
+    length after ≡ length (take left rest) →
+    Going clocks start lent (take (3 * many) list ++ (after ++ drop left rest)) lentCounts (set (set counts (2 * i) (getD (r .answers) 0 0)) (2 * i + 1) (getD (r .answers) 1 0)) (r .ledger) next
+    (gone + getD (r .answers) 1 0) (many + getD (r .answers) 0 0) (i + 1) k
+going-on clocks start lent list lentCounts counts ledger between gone many i k g h after r new t n size =
+    let same = seam list after (3 * many) (omega (arith, g .few, g .fits, g .room)) size ∙ g .sized in
     let p : Plain = contents ledger in
     let u : ℕ = getD clocks i 0 in
     let ts : List ℕ = take i clocks in
@@ -133,7 +141,7 @@ begun clocks start lent lentCounts k h room counting =
       sized = refl;
       countsSized = refl;
       few = omega arith;
-      fits = omega (arith, h .good .entryCount);
+      fits = omega (arith, h .good .entries .count);
       room = room;
       counting = counting;
       series = record { held = h; left = refl; heldBetween = h; leftBetween = ap (λ l. prunes l (contents start)) (sym (take-nil k)); told = refl; counted = refl; gone = refl; many = refl };

@@ -6,7 +6,7 @@ ghost use Rattle.ledger.specs.Contents.{Held, contents};
 ghost use Rattle.claim.specs.Calls.{decode, Ran};
 use dispatch::changing::apply;
 use ledger::Ledger;
-use words::slices::word_at;
+use lists::slices::word_at;
 
 fn at_most(n: u64, limit: usize) -> usize
     ensures { λ r. ⌜ r ≡ min n limit ⌝ }

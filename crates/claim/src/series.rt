@@ -89,12 +89,14 @@ pub fn prune_all(
         let clock = clock_at(clocks, i);
         let at = 3 * written;
         let done = prune(ledger, clock, &mut reports[at..]);
-        counts[2 * i] = done.answer;
-        counts[2 * i + 1] = done.fallen;
+        let reported = done.answers[0];
+        let gone = done.answers[1];
+        counts[2 * i] = reported;
+        counts[2 * i + 1] = gone;
         ledger = done.ledger;
         between = either(i < k, ledger, between);
-        fallen += done.fallen;
-        written += done.answer as usize;
+        fallen += gone;
+        written += reported as usize;
         i += 1;
     }
     PrunedAll {

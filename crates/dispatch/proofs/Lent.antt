@@ -18,8 +18,7 @@ pub beside : (o : Outcome) (r : Done) (lent : List ℕ) → Meets o [] [] r → 
 beside o r lent m =
     record {
       refused = m .refused;
-      answer = m .answer;
-      fallen = m .fallen;
+      answers = m .answers;
       ledger = m .ledger;
       wrote = rw (nothing (o .words) (m .wrote)) refl;
       held = m .held;

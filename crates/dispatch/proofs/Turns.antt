@@ -12,7 +12,7 @@ use Rattle.rules.specs.Calls.{Call, step}
 use Rattle.ledger.specs.declared.Ledger.{Ledger}
 use Rattle.ledger.specs.declared.Done.{Done}
 use Rattle.ledger.specs.Contents.{contents, Held}
-use Rattle.ledger.specs.Meets.{Meets}
+use Rattle.ledger.specs.Meets.{Meets, says}
 use Rattle.dispatch.specs.Changing.{after, listBefore, Turned}
 
 -- lists of one length, filled with one word, are one
@@ -54,7 +54,7 @@ going-on turns blank c start lent list next later r s left g h n m same =
 
 -- before the first turn
 pub begun : (turns blank : ℕ) (c : Call) (start : Ledger) (lent : List ℕ) → Held start →
-    Going turns blank c start lent lent (record { refused = 0; answer = 0; fallen = 0; ledger = start }) turns
+    Going turns blank c start lent lent (says 0 start) turns
 begun turns blank c start lent h =
     let none : turns - turns ≡ 0 = omega arith in
     record { within = omega arith; same = refl; held = h; holds = rw none refl; said = rw none (refl, refl) }

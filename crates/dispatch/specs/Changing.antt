@@ -10,7 +10,7 @@ use Rattle.rules.specs.Calls.{Call, admission, absence, certify, abandonment, s
 use Rattle.ledger.specs.declared.Ledger.{Ledger}
 use Rattle.ledger.specs.declared.Done.{Done}
 use Rattle.ledger.specs.Contents.{contents}
-use Rattle.ledger.specs.Meets.{Meets}
+use Rattle.ledger.specs.Meets.{Meets, says}
 
 -- words that are missing count as 0; 13 and every other number is a prune
 unfoldable pub callOf : ℕ → List ℕ → ℕ → Call
@@ -41,5 +41,5 @@ listBefore (suc n) blank lent = map (λ w. blank) lent
 
 -- what is handed back after so many turns: the last one's outcome; after none nothing is said and all is as it was
 abbrev pub Turned : ℕ → ℕ → Call → Ledger → List ℕ → List ℕ → Done → Type 0
-Turned zero blank c l lent now r = (r ≡ record { refused = 0; answer = 0; fallen = 0; ledger = l }) × (now ≡ lent)
+Turned zero blank c l lent now r = (r ≡ says 0 l) × (now ≡ lent)
 Turned (suc n) blank c l lent now r = Meets (step c (after n c (contents l))) (listBefore n blank lent) now r

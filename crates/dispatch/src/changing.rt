@@ -19,13 +19,13 @@ use calls::terminal::record_terminal;
 use calls::terminal::stamp_terminal;
 use ledger::Done;
 use ledger::Ledger;
+use lists::slices::word_at;
 use sweeps::closes::closes;
 use sweeps::prune::prune;
 use types::RecordKey;
 use types::Shard;
 use types::Time;
 use types::Transaction;
-use words::slices::word_at;
 
 // The word in every place before a further turn; the first has the list as it was lent.
 fn refill(lent: &mut [u64], word: u64, is_further: bool)
@@ -56,8 +56,7 @@ pub fn apply(
     let d = word_at(words, 3);
     let mut done = Done {
         refused: 0,
-        answer: 0,
-        fallen: 0,
+        answers: [0, 0, 0],
         ledger,
     };
     let mut left = turns;

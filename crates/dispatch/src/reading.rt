@@ -9,6 +9,7 @@ use entry_lists::issuers_of;
 use entry_lists::past_deadline;
 use entry_lists::questions;
 use ledger::Ledger;
+use lists::slices::word_at;
 use readings::Answer;
 use readings::lookups;
 use shard_lists::claimants;
@@ -19,7 +20,6 @@ use types::RecordKey;
 use types::Shard;
 use types::Time;
 use types::Transaction;
-use words::slices::word_at;
 
 // The reading of a kind. Words that are missing count as 0, and a reading that takes no list leaves the lent one as it is.
 pub fn ask(ledger: Ledger, kind: u64, words: &[u64], lent: &mut [u64]) -> Answer

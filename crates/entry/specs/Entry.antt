@@ -9,6 +9,7 @@ use Rattle.lists.specs.Lists.{Every, Ascending, has, include, self, zipBy, cut}
 use Rattle.lists.specs.Arrays.{insertAt}
 use Rattle.rules.specs.Plain as plain
 use Rattle.rules.specs.Words.{edge, with}
+use Rattle.types.specs.Transactions.{numberOf}
 use Rattle.entry.specs.declared.Part.{Part}
 use Rattle.entry.specs.declared.Part.the-variants.{Whole, Leg, Core, Remainder}
 use Rattle.entry.specs.declared.Entry.{Entry}
@@ -28,7 +29,7 @@ edgesOf e =
 abbrev pub termsOf : Entry → plain.Terms
 termsOf e =
     record {
-      transaction = e .tx .0;
+      transaction = numberOf (e .tx);
       at = e .at .0;
       end = e .end .0;
       anchor = e .anchor .0;

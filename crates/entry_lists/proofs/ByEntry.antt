@@ -1,65 +1,32 @@
 -- Lists by transaction: the entry that a loop over the roster meets, what is left behind it, and what the lists' tests are of each entry.
 -- Assumes nothing.
-use Prim.Native.Nat.{ℕ, _+_, _^_, _≤_, _<_}
+use Prim.Native.Nat.{ℕ, suc, _+_, _-_, _*_, _^_, _≤_, _<_}
 use mathlib.Core.Path.{_≡_, refl, sym, ap, _∙_}
-use mathlib.Core.Bool.{Bool, true, false, not, _&&_}
+use mathlib.Core.Bool.{Bool, true, false, not, _&&_, _||_, false≢true}
 use mathlib.Core.List.{List, [], _∷_, _++_, List·Memᴰ}
-use native.Mathlib.Numerals.{add-one}
 use native.Mathlib.Omega.{arith}
-use borrow.Author.Tests.{eq-eqb, eqb-true, leb-true}
+use borrow.Author.Tests.{eq-eqb, ne-eqb, eqb-true, leb-true}
 use lib.Dec.{eqb, leb}
-use lib.ListN.{length, take, drop, getD, length-map, drop-of-length-le, List·getD-map}
-use lib.Seq.{drop-cons, getD-take, length-take-le}
-use Rattle.lists.specs.Lists.{keep, concatMap}
-use Rattle.lists.proofs.Tests.{and-both, and-right, same-test}
+use lib.ListN.{length, take, length-map, length-append}
+use lib.Seq.{length-take-le}
+use Rattle.lists.specs.Lists.{consIf, keep, concatMap, has, without, Above, Ascending, self}
+use Rattle.lists.proofs.Tests.{and-both, and-left, and-right, same-test}
 use Rattle.lists.proofs.Keep.{keep-same, any-has, any-more, length-keep}
 use Rattle.lists.proofs.Picked.{any-kept, any-picked}
-use Rattle.lists.proofs.Distinct.{every-at}
+use Rattle.lists.proofs.Order.{above-weak}
 use Rattle.rules.specs.Plain as plain
 use Rattle.rules.specs.Numbers.{recordKey}
-use Rattle.rules.specs.Plain.{Plain, transactionOf, issues}
+use Rattle.rules.specs.Plain.{Plain, transactionOf, issues, isCore, isCovered}
 use Rattle.rules.specs.Index.{index, names}
-use Rattle.rules.specs.Good.{Good, GoodEntry}
+use Rattle.rules.specs.Good.{Good, GoodEntry, GoodPart}
 use Rattle.rules.specs.Readings.{isIssuer, issuersOf, ask, questionsOf}
 use Rattle.rules.proofs.Named.{index-names}
 use Rattle.entry.specs.declared.Entry.{Entry}
 use Rattle.entry.specs.Entry.{plainEntry, Fits}
 use Rattle.entry.proofs.Edges.{starting}
 use Rattle.ledger.specs.declared.Ledger.{Ledger}
-use Rattle.ledger.specs.Contents.{entryIn, entriesOf, contents, Held}
-use Rattle.ledger.proofs.Lift.{entry-in, entries-length}
-use Rattle.store.specs.Roster.{slotsOf}
+use Rattle.ledger.specs.Contents.{contents, Held}
 use Rattle.entry_lists.specs.Tests.{holdsId, isAsking, asksOf}
-
--- The entry at a place of the roster: where it lies, and the entries from it on.
-pub record Lies (l : Ledger) (i : ℕ) : Type 0 where
-  pub place : i < 48
-  pub slot : getD (l .roster .slots) i 0 < 48
-  pub fits : (d : Entry) → Fits (getD (l .entries) (getD (l .roster .slots) i 0) d)
-  pub good : (d : Entry) → GoodEntry (l .local .0) (plainEntry (getD (l .entries) (getD (l .roster .slots) i 0) d))
-  pub next : (d : Entry) → drop i (entriesOf l) ≡ plainEntry (getD (l .entries) (getD (l .roster .slots) i 0) d) ∷ drop (i + 1) (entriesOf l)
-
-pub lies : (l : Ledger) → Held l → (i : ℕ) → i < l .roster .len → Lies l i
-unfolding contents
-lies l h i b =
-    let s = getD (l .roster .slots) i 0 in
-    let s-in : s < 48 = every-at (λ n. n < 48) 0 i (l .roster .slots) (omega (arith, h .roster .slotLength, h .roster .room)) (h .roster .within) in
-    let z = entryIn (l .entries) 0 in
-    let read : (d : Entry) → getD (entriesOf l) i z ≡ plainEntry (getD (l .entries) s d) =
-    λ d. List·getD-map (entryIn (l .entries)) (slotsOf (l .roster)) i 0 ∙ ap (entryIn (l .entries)) (getD-take (l .roster .len) (l .roster .slots) i 0 b)
-    ∙ entry-in (l .entries) s d (omega (arith, h .slots)) in
-    let len = entries-length l h in
-    let got : GoodEntry (l .local .0) (getD (entriesOf l) i z) = every-at (GoodEntry (l .local .0)) z i (entriesOf l) (omega arith) (h .good .entries) in
-    record {
-      place = omega (arith, h .roster .room);
-      slot = s-in;
-      fits = λ d. every-at Fits d s (l .entries) (omega (arith, h .slots)) (h .fits);
-      good = λ d. rw (read d) at got;
-      next = λ d. rw (add-one i, drop-cons (entriesOf l) i z (omega arith), read d);
-    }
-
-pub none-left : (l : Ledger) → Held l → (i : ℕ) → l .roster .len ≤ i → drop i (entriesOf l) ≡ []
-none-left l h i b = drop-of-length-le (entriesOf l) {i = i} (omega (arith, entries-length l h))
 
 -- An entry whose edges from local hold an id is in the index under the id's key.
 abbrev keyOf : plain.Edge → ℕ
@@ -90,7 +57,43 @@ issuers-hold p g id = keep-same (isIssuer p id) (holdsId (p .local) id) (p .entr
 -- V is within what a sum of two times fits.
 pub validity-small : (l : Ledger) → Held l → l .validity < 2 ^ 48
 unfolding contents
-validity-small l h = omega (arith, leb-true (l .validity) (2 ^ 40) (and-right (leb 1 (l .validity)) (leb (l .validity) (2 ^ 40)) (h .good .validity)))
+validity-small l h = omega (arith, leb-true (l .validity) (2 ^ 40) (and-right (leb 1 (l .validity)) (leb (l .validity) (2 ^ 40)) (h .good .frame .validity)))
+
+-- One less without a number of a rising list.
+above-kept : (x : ℕ) (l : List ℕ) → Above self x l → length (without self x l) ≡ length l
+above-kept x [] a = refl
+above-kept x (y ∷ l) a = rw (ne-eqb y x (omega (arith, a .0))) (ap suc (above-kept x l (a .1)))
+
+one-less : (x : ℕ) (l : List ℕ) → Ascending self l → has self x l ≡ true → length (without self x l) + 1 ≡ length l
+one-less x [] a h = absurd (false≢true h)
+one-less x (y ∷ l) a h = go (eqb y x) refl h (one-less x l (a .1))
+  where
+    go : (b : Bool) → eqb y x ≡ b → b || has self x l ≡ true → (has self x l ≡ true → length (without self x l) + 1 ≡ length l) →
+        length (consIf (not b) y (without self x l)) + 1 ≡ suc (length l)
+    go true u q ih = omega (arith, above-kept x l (above-weak self x y l (omega (arith, eqb-true y x u)) (a .0)))
+    go false u q ih = omega (arith, ih q)
+
+core-has : (q : plain.Part) (local : ℕ) (t : plain.Terms) (marks : List ℕ) (b : Bool) → isCore q ≡ true → GoodPart q local t marks b →
+    has self local (t .coreShards) ≡ true
+core-has plain.core local t marks b h g = g .0
+core-has plain.whole local t marks b h g = absurd (false≢true h)
+core-has plain.leg local t marks b h g = absurd (false≢true h)
+core-has plain.remainder local t marks b h g = absurd (false≢true h)
+
+-- An entry that asks does so of each core shard but local, which is one of them.
+pub asks-count : (local : ℕ) (e : Entry) → Fits e → GoodEntry local (plainEntry e) → isAsking (plainEntry e) ≡ true →
+    length (asksOf local (plainEntry e)) + 1 ≡ e .«core_len»
+unfolding plainEntry
+asks-count local e f g h =
+    let p = plainEntry e in
+    let cores = take (e .«core_len») (e .core) in
+    let known = core-has (p .part) local (p .terms) (p .marks) (p .returned) (and-left (isCore (p .part)) (not (isCovered p)) h) (g .part) in
+    omega (
+      arith,
+      length-map (keep (λ (s : ℕ). not (eqb s local)) cores) (ask p),
+      one-less local cores (g .terms .rising) known,
+      length-take-le (e .«core_len») (e .core) (omega (arith, f .coreLen, f .core)),
+    )
 
 -- The questions of an entry: none, or one for each core shard but local.
 pub asks-few : (local : ℕ) (e : Entry) → Fits e → length (asksOf local (plainEntry e)) ≤ 8
@@ -103,6 +106,29 @@ pub next-asks : (local : ℕ) (x : plain.Entry) (l m : List plain.Entry) → l �
     concatMap (questionsOf local) l ≡ asksOf local x ++ concatMap (questionsOf local) m
 next-asks local x l m e h = rw (e, h)
 
+pub asks-room : (local count all size : ℕ) (x : plain.Entry) (l m : List plain.Entry) → l ≡ x ∷ m → isAsking x ≡ true →
+    count + length (concatMap (questionsOf local) l) ≡ all → 5 * all ≤ size → 5 * (count + length (asksOf local x)) ≤ size
+asks-room local count all size x l m e h q b =
+    omega (arith, ap length (next-asks local x l m e h), length-append (asksOf local x) (concatMap (questionsOf local) m))
+
 pub next-silent : (local : ℕ) (x : plain.Entry) (l m : List plain.Entry) → l ≡ x ∷ m → isAsking x ≡ false →
     concatMap (questionsOf local) l ≡ concatMap (questionsOf local) m
 next-silent local x l m e h = rw (e, h)
+
+pub asks-none : (local : ℕ) (x : plain.Entry) → isAsking x ≡ false → length (questionsOf local x) ≡ 0
+asks-none local x h = rw h
+
+pub asks-all : (local : ℕ) (e : Entry) → Fits e → GoodEntry local (plainEntry e) → isAsking (plainEntry e) ≡ true →
+    (1 ≤ e .«core_len») × (e .«core_len» - 1 ≡ length (questionsOf local (plainEntry e))) × (e .«core_len» - 1 ≤ 8)
+asks-all local e f g h =
+    let n = asks-count local e f g h in
+    let all : length (questionsOf local (plainEntry e)) ≡ length (asksOf local (plainEntry e)) = rw h in
+    (omega (arith, n), omega (arith, n, all), omega (arith, f .coreLen))
+
+pub asks-next : (local : ℕ) (x : plain.Entry) (l m : List plain.Entry) → l ≡ x ∷ m →
+    length (concatMap (questionsOf local) l) ≡ length (questionsOf local x) + length (concatMap (questionsOf local) m)
+asks-next local x l m e = ap (λ n. length (concatMap (questionsOf local) n)) e ∙ length-append (questionsOf local x) (concatMap (questionsOf local) m)
+
+-- so many counted, and those still to come
+pub counted : (count r all whole rest n : ℕ) → r ≡ n → whole ≡ n + rest → count + whole ≡ all → count + r + rest ≡ all
+counted count r all whole rest n e q s = omega arith

@@ -1,20 +1,23 @@
 -- A loop that writes items one behind the other: what is written, with the items still to come, is the whole run.
 -- Assumes nothing.
-use Prim.Native.Nat.{ℕ, _+_, _*_, _≤_}
+use Prim.Native.Nat.{ℕ, _+_, _*_, _≤_, _<_}
 use mathlib.Core.Path.{_≡_, refl, sym, ap, _∙_}
+use mathlib.Core.Bool.{true, false}
 use mathlib.Core.List.{List, [], _∷_, _++_, append-nil}
 use native.Mathlib.Numerals.{add-one, add-two, add-three, add-four}
 use native.Mathlib.Omega.{arith}
+use borrow.Author.Tests.{lt-ltb, le-ltb}
 use lib.ListN.{length, take, drop, set, length-append}
 use lib.Seq.{sets, length-sets, take-all, take-append-le}
 use Rattle.lists.specs.Lists.{concatMap}
 use Rattle.lists.proofs.Keep.{concatMap-append}
 use Rattle.lists.proofs.Listing.{length-words, sets-append, sets-front}
 use Rattle.rules.specs.Plain.{Plain}
+use Rattle.rules.specs.Outcome.{tooShort}
 use Rattle.rules.specs.Readings.{listing}
 use Rattle.readings.specs.declared.Answer.{Answer}
 use Rattle.readings.specs.Reads.{Reads}
-use Rattle.readings.specs.Answers.{Lists}
+use Rattle.readings.specs.Answers.{Tells, Refuses, Lists}
 use Rattle.readings.proofs.Written.{reads-list}
 use Rattle.entry_lists.specs.Runs.{Ran}
 
@@ -83,6 +86,27 @@ module _ {A : Type 0} (words : A → List ℕ) (k : ℕ) (each : (x : A) → len
   reads-run items before after n p m lent out r z h w =
       let count : n ≡ length items = omega (arith, h .end) in
       reads-list words items p m lent out r z (rw count at (rw (front items before after n h) at w))
+
+  -- a lent list that is too short for so many items, and one that was run into from its front
+  pub reads-none : (items : List A) (p : Plain) (lent : List ℕ) (r : Answer) → length lent < k * length items → Refuses 9 r →
+      Reads (listing 0 (length lent) words items p) lent lent r
+  reads-none items p lent r h w =
+      let t : tooShort (length lent) (concatMap words items) ≡ true = rw (length-words words k each items) (lt-ltb (length lent) (k * length items) h) in
+      reads-list words items p 0 lent lent r refl (record { refused = rw t (w .refused); answer = rw t (w .answer); wrote = rw t })
+
+  pub reads-all : (items : List A) (p : Plain) (lent after : List ℕ) (n : ℕ) (r : Answer) → Ran words k items lent 0 after n → Tells n r →
+      Reads (listing 0 (length lent) words items p) lent after r
+  reads-all items p lent after n r h w =
+      let all = concatMap words items in
+      let size : length all ≤ length lent = omega (arith, h .room, h .end, ap (λ i. k * i) (h .end), length-words words k each items) in
+      let t : tooShort (length lent) all ≡ false = le-ltb (length lent) (length all) size in
+      let start : k * 0 ≡ 0 = omega arith in
+      reads-list words items p 0 lent after r refl
+      (record {
+        refused = rw t (w .refused);
+        answer = rw t (omega (arith, w .answer, h .end));
+        wrote = rw t (h .wrote ∙ ap (λ i. sets lent i all) start ∙ sets-front lent all size);
+      })
 
 -- the words of one item, one by one
 pub two-sets : (l : List ℕ) (n a b : ℕ) → set (set l n a) (n + 1) b ≡ sets l n (a ∷ b ∷ [])

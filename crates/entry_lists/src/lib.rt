@@ -1,11 +1,13 @@
 // Lists by transaction: questions, entries past their deadline, issuers of an id. The words of each are gathered in one pass over the
-// ledger, in an array that has room for all there can be, and then written out, or refused where the lent list is too short.
+// ledger, in an array that has room for all there can be, and then written out, or refused where the lent list is too short. Questions may
+// be so many that an array for them would cost more than a pass that counts them: they are written at once.
 ghost use mathlib.Core.Path.{_≡_};
 ghost use mathlib.Core.Bool.{_&&_};
-ghost use Prim.Native.Nat.{_+_, _≤_, _<_, _^_};
+ghost use Prim.Native.Nat.{_+_, _*_, _≤_, _<_, _^_};
 ghost use lib.Dec.{eqb};
 ghost use lib.ListN.{length};
-ghost use Rattle.rules.specs.Readings.{read, askQuestions, listPastDeadline, listIssuers, questions, questionWords, pastDeadline, termWords, issuersOf, issuerWords};
+ghost use Rattle.rules.specs.Readings.{read, askQuestions, listPastDeadline, listIssuers, questions, questionsOf, questionWords, pastDeadline, termWords, issuersOf, issuerWords};
+ghost use Rattle.rules.specs.Good.{GoodEntry};
 ghost use Rattle.entry.specs.Entry.{plainEntry, Fits};
 ghost use Rattle.ledger.specs.Contents.{contents, Held};
 ghost use Rattle.readings.specs.Reads.{Reads};
@@ -14,6 +16,7 @@ ghost use Rattle.entry_lists.specs.Runs.{Ran};
 use entry::Entry;
 use ledger::Ledger;
 use readings::Answer;
+use readings::reply::answer;
 use readings::reply::list;
 use readings::reply::refusal;
 use types::Shard;
@@ -33,8 +36,8 @@ fn is_asking(e: Entry) -> bool
 
 // The entry's questions, five words each, put behind those that are there; how many there are then. The core is taken out of the entry
 // first, so that the entry needs no copy.
-fn put_questions(e: Entry, local: Shard, from: usize, words: &mut [u64; 1920]) -> usize
-    requires { ⌜ Fits e × (from + 8 ≤ 384) × (length (now words) ≡ 1920) ⌝ }
+fn put_questions(e: Entry, local: Shard, from: usize, words: &mut [u64]) -> usize
+    requires { ⌜ Fits e × (5 * (from + length (asksOf (local .0) (plainEntry e))) ≤ length (now words)) ⌝ }
     ensures { λ r. ⌜ Ran questionWords 5 (asksOf (local .0) (plainEntry e)) (now (words .entry)) from (now (words .exit)) r ⌝ }
 {
     let n = e.core_len as usize;
@@ -59,9 +62,22 @@ fn put_questions(e: Entry, local: Shard, from: usize, words: &mut [u64; 1920]) -
     count
 }
 
-fn gather_questions(ledger: Ledger, words: &mut [u64; 1920]) -> usize
-    requires { ⌜ Held ledger × (length (now words) ≡ 1920) ⌝ }
-    ensures { λ r. ⌜ Ran questionWords 5 (questions (contents ledger)) (now (words .entry)) 0 (now (words .exit)) r ⌝ }
+// How many questions the entry asks. A core has local in it, of which nothing is asked.
+fn asks(e: Entry, local: Shard) -> usize
+    requires { ⌜ Fits e × GoodEntry (local .0) (plainEntry e) ⌝ }
+    ensures { λ r. ⌜ (r ≡ length (questionsOf (local .0) (plainEntry e))) × (r ≤ 8) ⌝ }
+{
+    if is_asking(e) {
+        return e.core_len as usize - 1;
+    }
+    0
+}
+
+// Each core shard but local of each uncovered core entry, with its cell key. They are counted and written here, since a function for either
+// would be handed a copy of the ledger.
+pub fn questions(ledger: Ledger, lent: &mut [u64]) -> Answer
+    requires { ⌜ Held ledger ⌝ }
+    ensures { λ r. ⌜ Reads (read (askQuestions (length (now (lent .entry)))) (contents ledger)) (now (lent .entry)) (now (lent .exit)) r ⌝ }
 {
     let roster = ledger.roster;
     let n = roster.len;
@@ -70,24 +86,25 @@ fn gather_questions(ledger: Ledger, words: &mut [u64; 1920]) -> usize
     while i < n {
         let slot = roster.slots[i];
         let e = ledger.entries[slot];
+        count += asks(e, ledger.local);
+        i += 1;
+    }
+    if lent.len() < 5 * count {
+        return refusal(9);
+    }
+    let mut written: usize = 0;
+    let mut k: usize = 0;
+    while k < n {
+        let slot = roster.slots[k];
+        let e = ledger.entries[slot];
         if is_asking(e) {
-            count = put_questions(e, ledger.local, count, words);
-            i += 1;
+            written = put_questions(e, ledger.local, written, lent);
+            k += 1;
         } else {
-            i += 1;
+            k += 1;
         }
     }
-    count
-}
-
-// Each core shard but local of each uncovered core entry, with its cell key.
-pub fn questions(ledger: Ledger, lent: &mut [u64]) -> Answer
-    requires { ⌜ Held ledger ⌝ }
-    ensures { λ r. ⌜ Reads (read (askQuestions (length (now (lent .entry)))) (contents ledger)) (now (lent .entry)) (now (lent .exit)) r ⌝ }
-{
-    let mut words = [0u64; 1920];
-    let n = gather_questions(ledger, &mut words);
-    list(&words, 5 * n, n, lent)
+    answer(written as u64)
 }
 
 // Whether the entry is past its deadline and no settlement ends it.

@@ -12,7 +12,6 @@ use Rattle.lists.specs.Lists.{Every}
 use Rattle.lists.proofs.Counting.{fill-one, every-same}
 use Rattle.lists.proofs.Distinct.{every-set, every-at}
 use Rattle.rules.specs.Numbers.{isShard}
-use Rattle.rules.specs.Plain as plain
 use Rattle.rules.specs.Plain.{shardOf}
 use Rattle.rules.specs.Prune.{readable}
 use Rattle.rules.specs.Good.{GoodDeparture}

@@ -1,2 +1,4 @@
+pub mod Places
 pub mod Lift
 pub mod Meeting
+pub mod Doing

@@ -9,39 +9,30 @@ use Rattle.rules.specs.Outcome.{Outcome, done, unless}
 use Rattle.ledger.specs.declared.Ledger.{Ledger}
 use Rattle.ledger.specs.declared.Done.{Done}
 use Rattle.ledger.specs.Contents.{contents, Held}
-use Rattle.ledger.specs.Meets.{Meets}
+use Rattle.ledger.specs.Meets.{Meets, threeOf, ends, says, saysNo}
 use Rattle.ledger.proofs.Lift.{Became}
 
 -- the table gives a number: it is said, and nothing else is done
-pub refuses : (n : ℕ) (l : Ledger) (lent : List ℕ) (m : ℕ) (o : Outcome) (r : Done) → Held l → m ≡ suc n →
-    r ≡ record { refused = suc n; answer = 0; fallen = 0; ledger = l } → Meets (unless m (contents l) o) lent lent r
-refuses n l lent m o r h e q =
-    rw (e, q) (record { refused = refl; answer = refl; fallen = refl; ledger = refl; wrote = refl; held = h })
+pub refuses : (n : ℕ) (l : Ledger) (lent : List ℕ) (m : ℕ) (o : Outcome) (r : Done) → Held l → m ≡ suc n → r ≡ saysNo (suc n) l → Meets (unless m (contents l) o) lent lent r
+refuses n l lent m o r h e q = rw (e, q) (record { refused = refl; answers = refl; ledger = refl; wrote = refl; held = h })
 
 -- the table gives none
 pub passes : (m : ℕ) (p : Plain) (o : Outcome) (lent after : List ℕ) (r : Done) → m ≡ 0 → Meets o lent after r → Meets (unless m p o) lent after r
 passes m p o lent after r e g = rw e g
 
--- the ledger became what the call says, which answers a number or nothing
-pub answers : (n : ℕ) (l : Ledger) (p : Plain) (r : Done) → Became p l → r ≡ record { refused = 0; answer = n; fallen = 0; ledger = l } →
-    Meets (done (n ∷ []) p) [] [] r
-answers n l p r b q =
-    rw q (record { refused = refl; answer = refl; fallen = refl; ledger = b .holds; wrote = refl; held = b .held })
+-- the ledger became what the call says, with its answers
+ended : (ns : List ℕ) (l : Ledger) (p : Plain) (r : Done) → Became p l → r ≡ record { refused = 0; answers = threeOf ns; ledger = l } → Meets (done ns p) [] [] r
+ended ns l p r b q = rw q (record { refused = refl; answers = refl; ledger = b .holds; wrote = refl; held = b .held })
 
-pub silent : (l : Ledger) (p : Plain) (r : Done) → Became p l → r ≡ record { refused = 0; answer = 0; fallen = 0; ledger = l } →
-    Meets (done [] p) [] [] r
-silent l p r b q =
-    rw q (record { refused = refl; answer = refl; fallen = refl; ledger = b .holds; wrote = refl; held = b .held })
+-- which are a number or nothing
+pub answers : (n : ℕ) (l : Ledger) (p : Plain) (r : Done) → Became p l → r ≡ says n l → Meets (done (n ∷ []) p) [] [] r
+answers n = ended (n ∷ [])
 
--- what a call says
-abbrev pub says : ℕ → Ledger → Done
-says n l = record { refused = 0; answer = n; fallen = 0; ledger = l }
-
-abbrev pub saysNo : ℕ → Ledger → Done
-saysNo n l = record { refused = n; answer = 0; fallen = 0; ledger = l }
+pub silent : (l : Ledger) (p : Plain) (r : Done) → Became p l → r ≡ says 0 l → Meets (done [] p) [] [] r
+silent = ended []
 
 -- a refusal's number that is 0 is none
-pub unrefused : (n m : ℕ) (l : Ledger) (o : Outcome) (a b : List ℕ) → n ≡ 0 → Meets o a b (says m l) → Meets o a b (record { refused = n; answer = m; fallen = 0; ledger = l })
+pub unrefused : (n m : ℕ) (l : Ledger) (o : Outcome) (a b : List ℕ) → n ≡ 0 → Meets o a b (says m l) → Meets o a b (ends n m l)
 unrefused n m l o a b e w = rw e w
 
 -- the ledger as it is

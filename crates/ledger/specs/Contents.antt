@@ -2,7 +2,7 @@
 use Prim.Native.Nat.{ℕ}
 use mathlib.Core.Path.{_≡_}
 use mathlib.Core.List.{List, [], map}
-use lib.ListN.{length, getD}
+use lib.ListN.{length, getD, set}
 use Rattle.lists.specs.Lists.{Every}
 use Rattle.rules.specs.Plain as plain
 use Rattle.rules.specs.Plain.{Plain, transactionOf}
@@ -16,6 +16,9 @@ use Rattle.store.specs.Roster.{keysOf, slotsOf}
 use Rattle.store.specs.Issuers as issuers
 use Rattle.store.specs.Departures as departures
 use Rattle.store.specs.Departures.{onFile}
+use Rattle.store.specs.declared.roster.Roster.{Roster}
+use Rattle.store.specs.declared.issuers.Issuers.{Issuers}
+use Rattle.store.specs.declared.departures.Departures.{Departures}
 use Rattle.ledger.specs.declared.Ledger.{Ledger}
 
 -- what stands for an entry past the slots, where nothing is ever read
@@ -55,3 +58,32 @@ pub record Held (l : Ledger) : Type 0 where
   pub issuers : issuers.Holds (index (contents l)) (l .issuers)
   pub departures : departures.Sound (l .departures)
   pub good : Good (contents l)
+
+-- the ledger with other parts: running count, roster, entries, index and departures
+abbrev pub withParts : Ledger → ℕ → Roster → List Entry → Issuers → Departures → Ledger
+withParts l n r es x d =
+    record {
+      local = l .local;
+      validity = l .validity;
+      «core_span» = l .«core_span»;
+      «leg_span» = l .«leg_span»;
+      rebuilt = n;
+      roster = r;
+      entries = es;
+      issuers = x;
+      departures = d;
+    }
+
+-- the ledger with another running count, and with another entry in a slot
+abbrev pub withCount : Ledger → ℕ → Ledger
+withCount l n = withParts l n (l .roster) (l .entries) (l .issuers) (l .departures)
+
+abbrev pub storing : Ledger → ℕ → Entry → Ledger
+storing l slot e = withParts l (l .rebuilt) (l .roster) (set (l .entries) slot e) (l .issuers) (l .departures)
+
+-- the slot at a place of the roster, and the entry that lies there; d is read where there is none
+abbrev pub slotAt : Ledger → ℕ → ℕ
+slotAt l k = getD (l .roster .slots) k 0
+
+abbrev pub lyingAt : Ledger → ℕ → Entry → Entry
+lyingAt l k d = getD (l .entries) (slotAt l k) d

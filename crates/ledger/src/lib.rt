@@ -21,7 +21,6 @@ pub struct Ledger {
 // What a changing call says: 0 or its refusal, its answers (0 where it has none), and the ledger after it.
 pub struct Done {
     pub refused: u64,
-    pub answer: u64,
-    pub fallen: u64,
+    pub answers: [u64; 3],
     pub ledger: Ledger,
 }

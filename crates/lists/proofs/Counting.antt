@@ -29,6 +29,13 @@ pub fill-one : {A B : Type 0} (f : A → B) (a : List B) (l : List A) (i : ℕ) 
 fill-one f a l i d y h k e r =
     rw (add-one i, take-suc-set a i y h, take-suc l i d k, map-append f (take i l) (getD l i d ∷ []), r, e)
 
+-- the same where the element is what the rest begins with
+pub fill-next : {A B : Type 0} (f : A → B) (a : List B) (l : List A) (i : ℕ) (x : A) (y : B) → i < length a → i < length l → drop i l ≡ x ∷ drop (i + 1) l → y ≡ f x →
+    take i a ≡ map f (take i l) → take (i + 1) (set a i y) ≡ map f (take (i + 1) l)
+fill-next f a l i x y h k e q r =
+    let same : getD l i x ≡ x = ap (λ m. getD m 0 x) (sym (drop-cons l i x k) ∙ e) in
+    fill-one f a l i x y h k (q ∙ ap f (sym same)) r
+
 -- the rest from one place further down
 pub rest-down : {A : Type 0} (l : List A) (i : ℕ) (d : A) → 0 < i → i ≤ length l → drop (i - 1) l ≡ getD l (i - 1) d ∷ drop i l
 rest-down l i d p h =

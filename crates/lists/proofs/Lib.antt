@@ -15,3 +15,4 @@ pub mod Cuts
 pub mod Counting
 pub mod Sets
 pub mod Listing
+pub mod Items

@@ -27,3 +27,9 @@ map-changeIf {A} {B} g p f c (x ∷ l) = rw (map-changeIf g p f c l) (ap (λ y. 
     go : (b : Bool) → g (cond b (f x) x) ≡ g x
     go true = c x
     go false = refl
+
+-- what stands at a place, put back there
+pub put-back : {A : Type 0} (l : List A) (i : ℕ) (d : A) → set l i (getD l i d) ≡ l
+put-back [] i d = refl
+put-back (x ∷ l) zero d = refl
+put-back (x ∷ l) (suc i) d = ap (λ m. x ∷ m) (put-back l i d)

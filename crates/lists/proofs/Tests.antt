@@ -1,7 +1,10 @@
 -- Boolean tests: what a joined test says of its parts, and back.
 -- Assumes nothing.
-use mathlib.Core.Path.{_≡_, refl, sym}
-use mathlib.Core.Bool.{Bool, true, false, cond, _&&_, _||_, false≢true}
+use Prim.Native.Nat.{ℕ}
+use mathlib.Core.Path.{_≡_, refl, sym, _∙_}
+use mathlib.Core.Bool.{Bool, true, false, cond, not, _&&_, _||_, false≢true}
+use lib.Dec.{eqb}
+use borrow.Author.Tests.{eq-eqb, ne-eqb, eqb-true, eqb-false}
 
 pub or-left : (a b : Bool) → a ≡ true → a || b ≡ true
 or-left a b h = rw h
@@ -63,3 +66,14 @@ cond-same f false x y = refl
 pub cond-both : {A : Type 0} (b : Bool) (x : A) → cond b x x ≡ x
 cond-both true x = refl
 cond-both false x = refl
+
+pub not-not : (b : Bool) → not (not b) ≡ b
+not-not true = refl
+not-not false = refl
+
+pub eqb-swap : (a b : ℕ) → eqb a b ≡ eqb b a
+eqb-swap a b = go (eqb a b) refl
+  where
+    go : (c : Bool) → eqb a b ≡ c → eqb a b ≡ eqb b a
+    go true e = e ∙ sym (eq-eqb b a (sym (eqb-true a b e)))
+    go false e = e ∙ sym (ne-eqb b a (λ q. eqb-false a b e (sym q)))

@@ -110,6 +110,16 @@ module _ {A : Type 0} where
     ascending [] = true
     ascending (x ∷ l) = aboveAll (key x) l && ascending l
 
+-- Items gone through one after the other, each changing a state; and the sum of what each counts on the state that it meets.
+module _ {A S : Type 0} (f : A → S → S) where
+  abbrev pub through : List A → S → S
+  through [] s = s
+  through (x ∷ l) s = through l (f x s)
+
+  abbrev pub tally : (A → S → ℕ) → List A → S → ℕ
+  tally n [] s = 0
+  tally n (x ∷ l) s = n x s + tally n l (f x s)
+
 -- whether each of some tests passed
 abbrev pub allOf : List Bool → Bool
 allOf [] = true

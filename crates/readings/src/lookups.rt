@@ -10,10 +10,11 @@ ghost use Rattle.rules.specs.Readings.{read, openAt, answers, abandonment, cove
 ghost use Rattle.entry.specs.Entry.{plainPart};
 ghost use Rattle.ledger.specs.Contents.{contents, Held};
 ghost use Rattle.readings.specs.Reads.{Reads};
+ghost use Rattle.types.specs.Transactions.{numberOf};
 use crate::Answer;
+use crate::reply::answer;
 use crate::reply::refusal;
 use crate::reply::yes_no;
-use crate::reply::answer;
 use entry::Entry;
 use entry::Part;
 use ledger::Ledger;
@@ -39,7 +40,7 @@ fn is_abandonable(part: Part, certified: u8, departed_by: Shard) -> bool
 // Whether the entry may be abandoned.
 pub fn abandonment_answers(ledger: Ledger, tx: Transaction) -> Answer
     requires { ⌜ Held ledger ⌝ }
-    ensures { λ r. ⌜ Reads (read (abandonment (tx .0)) (contents ledger)) [] [] r ⌝ }
+    ensures { λ r. ⌜ Reads (read (abandonment (numberOf tx)) (contents ledger)) [] [] r ⌝ }
 {
     let roster = ledger.roster;
     let Found::At(k) = roster.find(tx) else {
@@ -54,7 +55,7 @@ pub fn abandonment_answers(ledger: Ledger, tx: Transaction) -> Answer
 // Whether a record names the entry or it has an absence.
 pub fn is_covered(ledger: Ledger, tx: Transaction) -> Answer
     requires { ⌜ Held ledger ⌝ }
-    ensures { λ r. ⌜ Reads (read (covered (tx .0)) (contents ledger)) [] [] r ⌝ }
+    ensures { λ r. ⌜ Reads (read (covered (numberOf tx)) (contents ledger)) [] [] r ⌝ }
 {
     let roster = ledger.roster;
     let Found::At(k) = roster.find(tx) else {
@@ -68,7 +69,7 @@ pub fn is_covered(ledger: Ledger, tx: Transaction) -> Answer
 // Whether a record names the entry.
 pub fn departed(ledger: Ledger, tx: Transaction) -> Answer
     requires { ⌜ Held ledger ⌝ }
-    ensures { λ r. ⌜ Reads (read (departed (tx .0)) (contents ledger)) [] [] r ⌝ }
+    ensures { λ r. ⌜ Reads (read (departed (numberOf tx)) (contents ledger)) [] [] r ⌝ }
 {
     let roster = ledger.roster;
     let Found::At(k) = roster.find(tx) else {
@@ -81,7 +82,7 @@ pub fn departed(ledger: Ledger, tx: Transaction) -> Answer
 // Whether the entry's certificate is by execution.
 pub fn executed(ledger: Ledger, tx: Transaction) -> Answer
     requires { ⌜ Held ledger ⌝ }
-    ensures { λ r. ⌜ Reads (read (executed (tx .0)) (contents ledger)) [] [] r ⌝ }
+    ensures { λ r. ⌜ Reads (read (executed (numberOf tx)) (contents ledger)) [] [] r ⌝ }
 {
     let roster = ledger.roster;
     let Found::At(k) = roster.find(tx) else {
@@ -94,7 +95,7 @@ pub fn executed(ledger: Ledger, tx: Transaction) -> Answer
 // Whether local does not own some route of the entry.
 pub fn reaches_beyond(ledger: Ledger, tx: Transaction) -> Answer
     requires { ⌜ Held ledger ⌝ }
-    ensures { λ r. ⌜ Reads (read (reachesBeyond (tx .0)) (contents ledger)) [] [] r ⌝ }
+    ensures { λ r. ⌜ Reads (read (reachesBeyond (numberOf tx)) (contents ledger)) [] [] r ⌝ }
 {
     let roster = ledger.roster;
     let Found::At(k) = roster.find(tx) else {
@@ -108,7 +109,7 @@ pub fn reaches_beyond(ledger: Ledger, tx: Transaction) -> Answer
 // Whether the index names the transaction under the record.
 pub fn issued_by(ledger: Ledger, r: RecordKey, tx: Transaction) -> Answer
     requires { ⌜ Held ledger ⌝ }
-    ensures { λ x. ⌜ Reads (read (issuedBy (r .0) (tx .0)) (contents ledger)) [] [] x ⌝ }
+    ensures { λ x. ⌜ Reads (read (issuedBy (r .0) (numberOf tx)) (contents ledger)) [] [] x ⌝ }
 {
     yes_no(ledger.issuers.names(r, tx))
 }
@@ -164,7 +165,7 @@ pub fn open_at(
     time: Time,
 ) -> Answer
     requires { ⌜ Held ledger ⌝ }
-    ensures { λ r. ⌜ Reads (read (openAt (tx .0) (shard .0) key (at .0) (end .0) (time .0)) (contents ledger)) [] [] r ⌝ }
+    ensures { λ r. ⌜ Reads (read (openAt (numberOf tx) (shard .0) key (at .0) (end .0) (time .0)) (contents ledger)) [] [] r ⌝ }
 {
     let no = question_refusal(shard, at, end, time);
     if no > 0 {
@@ -199,7 +200,7 @@ pub fn answers(
     inclusion: u64,
 ) -> Answer
     requires { ⌜ Held ledger ⌝ }
-    ensures { λ r. ⌜ Reads (read (answers (tx .0) (shard .0) key (at .0) (end .0) («read_at» .0) inclusion) (contents ledger)) [] [] r ⌝ }
+    ensures { λ r. ⌜ Reads (read (answers (numberOf tx) (shard .0) key (at .0) (end .0) («read_at» .0) inclusion) (contents ledger)) [] [] r ⌝ }
 {
     if inclusion > 1 {
         return refusal(5);

@@ -6,9 +6,9 @@ use mathlib.Core.List.{List}
 use Rattle.dispatch.specs.Changing.{callOf}
 use Rattle.dispatch.specs.Reading.{lookupOf, readingOf}
 use Rattle.script.specs.Texts.{sameText}
-use Rattle.script.specs.Calls.{named, codeOf, secondOf, thirdOf}
+use Rattle.script.specs.Calls.{named, codeOf}
 use Rattle.replay.specs.Names.{Named}
 
 pub names : (ws : List ℕ) (room : ℕ) → Named ws room
-unfolding callOf lookupOf readingOf sameText named codeOf secondOf thirdOf
+unfolding callOf lookupOf readingOf sameText named codeOf
 names ws room = record { calls = refl; readings = refl }

@@ -1,7 +1,7 @@
 -- What a line of a script does: the call that its code, numbers and lent list name, as often as it is made.
 use Prim.Native.Nat.{ℕ, zero, suc, _-_}
 use mathlib.Core.Path.{_≡_}
-use mathlib.Core.List.{List, [], map}
+use mathlib.Core.List.{List, [], _∷_, map}
 use lib.ListN.{getD, take, drop}
 use Rattle.rules.specs.Words.{word}
 use Rattle.rules.specs.Calls.{Call, making}
@@ -35,9 +35,9 @@ callIn line numbers = callOf (line .code - 3) (take (line .count) numbers) (line
 abbrev pub readingIn : Parsed → List ℕ → Reading
 readingIn line numbers = readingOf (line .code - 16) (take (line .count) numbers) (line .lent)
 
--- the three numbers that are written of a call: its refusal and its answers
+-- the four numbers that are written of a call: its refusal and its answers
 abbrev pub doneBy : List ℕ → Ledger → Done
-doneBy reply l = record { refused = getD reply 0 0; answer = getD reply 1 0; fallen = getD reply 2 0; ledger = l }
+doneBy reply l = record { refused = getD reply 0 0; answers = getD reply 1 0 ∷ getD reply 2 0 ∷ getD reply 3 0 ∷ []; ledger = l }
 
 abbrev pub answerBy : List ℕ → Answer
 answerBy reply = record { refused = getD reply 0 0; answer = getD reply 1 0 }

@@ -1,24 +1,24 @@
 -- Which call and which reading each name of a script makes: from the script's table of names to the rules.
 use Prim.Native.Nat.{ℕ, _-_}
 use mathlib.Core.Path.{_≡_}
-use mathlib.Core.List.{List, [], _∷_, _++_, map}
+use mathlib.Core.List.{List, [], _∷_, map}
 use lib.ListN.{take, drop}
 use Rattle.rules.specs.Words.{word}
 use Rattle.rules.specs.Calls as rules
 use Rattle.rules.specs.Readings as readings
 use Rattle.dispatch.specs.Changing.{callOf}
 use Rattle.dispatch.specs.Reading.{readingOf}
-use Rattle.script.specs.Calls.{firstNames, secondNames, thirdNames, codeOf}
+use Rattle.script.specs.Calls.{names, codeOf}
 
 -- register_committed, record_absence, certify, record_abandonment, settled, returned, closes, fated, release_resolved, forget,
 -- record_terminal, stamp_terminal, prune: the script's names after `repeat` and `new`
 abbrev pub changingNames : List (List ℕ)
-changingNames = drop 2 firstNames ++ take 4 secondNames
+changingNames = take 13 (drop 2 names)
 
 -- questions, open_at, answers, past_deadline, issuers_of, claimants, counterparts, unstamped_departures, reach, abandonment_answers, is_covered,
 -- departed, executed, reaches_beyond, issued_by, local, rebuilt: those before `dump`
 abbrev pub readingNames : List (List ℕ)
-readingNames = drop 4 secondNames ++ take 10 thirdNames
+readingNames = take 17 (drop 15 names)
 
 -- what each name makes of a line's numbers and the length of its list
 pub record Named (ws : List ℕ) (room : ℕ) : Type 0 where

@@ -1,6 +1,7 @@
 // Making, and the changing calls of a script.
 ghost use Prim.Native.Nat.{_<_};
 ghost use mathlib.Core.Path.{_≡_};
+ghost use mathlib.Core.List.{[], _∷_};
 ghost use lib.ListN.{length};
 ghost use Rattle.ledger.specs.Contents.{Held};
 ghost use Rattle.script.specs.Parse.{Sound};
@@ -15,9 +16,20 @@ use script::Parsed;
 use script::calls::NEW;
 use types::Shard;
 
+// What a call said, put down to be written: its number and its three answers.
+fn put_down(refused: u64, a: u64, b: u64, c: u64, reply: &mut [u64; 4])
+    requires { ⌜ length (now reply) ≡ 4 ⌝ }
+    ensures { λ r. ⌜ now (reply .exit) ≡ refused ∷ a ∷ b ∷ c ∷ [] ⌝ }
+{
+    reply[0] = refused;
+    reply[1] = a;
+    reply[2] = b;
+    reply[3] = c;
+}
+
 // A making, as often as the line says.
-pub fn renew(numbers: &[u64; 2048], times: u64, reply: &mut [u64; 3]) -> Ledger
-    requires { ⌜ length (now reply) ≡ 3 ⌝ }
+pub fn renew(numbers: &[u64; 2048], times: u64, reply: &mut [u64; 4]) -> Ledger
+    requires { ⌜ length (now reply) ≡ 4 ⌝ }
     ensures { λ r. ⌜ Renewed (now (numbers .entry)) (now (reply .exit)) r ⌝ }
 {
     let local = Shard(numbers[0]);
@@ -30,9 +42,13 @@ pub fn renew(numbers: &[u64; 2048], times: u64, reply: &mut [u64; 3]) -> Ledger
         left -= 1;
         done = making::new(local, validity, core_span, leg_span);
     }
-    reply[0] = done.refused;
-    reply[1] = done.answer;
-    reply[2] = done.fallen;
+    put_down(
+        done.refused,
+        done.answers[0],
+        done.answers[1],
+        done.answers[2],
+        reply,
+    );
     done.ledger
 }
 
@@ -43,10 +59,10 @@ pub fn apply(
     numbers: &[u64; 2048],
     lent: &mut [u64],
     times: u64,
-    reply: &mut [u64; 3],
+    reply: &mut [u64; 4],
 ) -> Ledger
     requires { ⌜ Held ledger × Sound line × (3 < line .code) ⌝ }
-    requires { ⌜ (4096 ≡ length (now lent)) × (length (now reply) ≡ 3) ⌝ }
+    requires { ⌜ (4096 ≡ length (now lent)) × (length (now reply) ≡ 4) ⌝ }
     ensures { λ r. ⌜ Changed line (now (numbers .entry)) times ledger (now (lent .entry)) (now (lent .exit)) (now (reply .exit)) r ⌝ }
 {
     let kind = (line.code - NEW) as u64;
@@ -57,8 +73,12 @@ pub fn apply(
     let list = &mut lent[..n];
     fill(list, FILL);
     let done = changing::apply(ledger, kind, words, list, turns_of(times), FILL);
-    reply[0] = done.refused;
-    reply[1] = done.answer;
-    reply[2] = done.fallen;
+    put_down(
+        done.refused,
+        done.answers[0],
+        done.answers[1],
+        done.answers[2],
+        reply,
+    );
     done.ledger
 }

@@ -41,7 +41,7 @@ fn main() {
             replies::stop(&mut output, out, at);
             return;
         }
-        let mut reply = [0u64; 3];
+        let mut reply = [0u64; 4];
         if code == NEW {
             ledger = changing::renew(&numbers, times, &mut reply);
         } else if code < QUESTIONS {

@@ -20,10 +20,10 @@ pub fn ask(
     numbers: &[u64; 2048],
     lent: &mut [u64],
     times: u64,
-    reply: &mut [u64; 3],
+    reply: &mut [u64; 4],
 )
     requires { ⌜ Held ledger × Sound line × (16 < line .code) ⌝ }
-    requires { ⌜ (4096 ≡ length (now lent)) × (length (now reply) ≡ 3) ⌝ }
+    requires { ⌜ (4096 ≡ length (now lent)) × (length (now reply) ≡ 4) ⌝ }
     ensures { λ r. ⌜ Asked line (now (numbers .entry)) ledger (now (lent .entry)) (now (lent .exit)) (now (reply .exit)) ⌝ }
 {
     let kind = (line.code - PRUNE) as u64;

@@ -18,7 +18,7 @@ fn answers_of(code: u8) -> u8 {
 }
 
 // status { " " answer }; after a refusal no answer. What `dump` says follows by itself.
-pub fn put_answers(buf: &mut [u8; 65536], out: Out, code: u8, reply: &[u64; 3]) -> Out
+pub fn put_answers(buf: &mut [u8; 65536], out: Out, code: u8, reply: &[u64; 4]) -> Out
     requires { ⌜ out .at ≤ 65536 ⌝ }
     ensures { λ r. ⌜ r .at ≤ 65536 ⌝ }
 {

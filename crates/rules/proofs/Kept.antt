@@ -9,19 +9,19 @@ use native.Mathlib.Omega.{arith}
 use lib.Dec.{eqb, ltb, leb}
 use lib.ListN.{length}
 use borrow.Author.Tests.{leb-false, ltb-false}
-use Rattle.lists.specs.Lists.{consIf, keep, allOf, filled, Every, Ascending, at, has, get, change, include, self, setOf}
+use Rattle.lists.specs.Lists.{consIf, keep, allOf, filled, Every, at, has, get, change, include, self, setOf}
 use Rattle.lists.proofs.Tests.{and-left, and-right, by-cond, cond-same, cond-both}
-use Rattle.lists.proofs.Keep.{length-keep, length-changeIf, every-keep, every-changeIf, keep-same, each-of}
+use Rattle.lists.proofs.Keep.{length-keep, length-changeIf, every-keep, keep-same, each-of}
 use Rattle.lists.proofs.Order.{ascending-keep, ascending-changeIf, ascending-include, ascending-includeAll, every-include, length-include, length-include-new, include-known}
 use Rattle.lists.proofs.Change.{every-change, has-change, has-include, new-include-known, new-include}
 use Rattle.rules.specs.Numbers.{isWord, isTime, isShard, isSpan, maxEntries, maxAbsences, maxDepartures, maxCount}
 use Rattle.rules.specs.Plain.{Part, whole, leg, core, remainder, Terms, Absence, Entry, Departure, Plain, isCore, isSettling, transactionOf, absenceKey, shardOf, empty, withEntries, withDepartures, withRebuilt, owed, entryOf, issues, owes}
 use Rattle.rules.specs.Words.{decomposed, admissionTerms, admissionFormed, admissionTimed, admissionPlaced, recordShard, recordGroups, recordFormed, recordTimed, finalizationLines, deciding, Line}
-use Rattle.rules.specs.Entries.{admitted, rebuilt, withPart, withCertificate, withDepartedBy, withMarks, isRead, readAbsent, certified, marked, isClosed, withGroup, withGroups, rebuiltBy, Ruling, skip, resolve, release, ruling, ruled, withLines}
+use Rattle.rules.specs.Entries.{admitted, rebuilt, withPart, withCertificate, withDepartedBy, withMarks, isRead, readAbsent, certified, marked, isClosed, withGroup, withGroups, rebuiltBy, skip, resolve, release, ruling, ruled, withLines}
 use Rattle.rules.specs.Prune.{survivors, pruned, stands, remains}
 use Rattle.rules.specs.Outcome.{Outcome, unless, _gives_then_}
 use Rattle.rules.specs.Calls.{Call, admission, absence, certify, abandonment, settled, returned, closes, fated, finalization, forget, terminal, stamp, prune, step, run, making, makingRefusal, unowed, noRoomFor, admissionRefusal, afterAdmission, isNew, isFull, absenceRefusal, afterAbsence, certifyRefusal, afterCertify, abandonmentRefusal, afterAbandonment, afterMark, closesRefusal, afterCloses, isFated, afterFated, finalizationRefusal, afterFinalization, afterForget, firstStamp, stamped, departed, terminalRefusal, afterTerminal, stampRefusal, afterStamp, pruneRefusal, afterPrune}
-use Rattle.rules.specs.Good.{Holds, GoodAbsence, Marked, GoodPart, isDepartedBy, GoodEntry, GoodStamp, GoodDeparture, Good, OfWords}
+use Rattle.rules.specs.Good.{Holds, GoodAbsence, Marked, GoodPart, isDepartedBy, GoodEntry, GoodStamp, GoodDeparture, GoodRows, GoodFile, GoodEntries, GoodDepartures, Good, OfWords}
 use Rattle.rules.proofs.Taken.{admitted-good, GoodGroup, groups-good, rebuilt-good}
 
 -- The refusal table.
@@ -137,103 +137,63 @@ resolved-good local e c o g = part-good local e g remainder [] false (in-core (e
     in-core core h k = k .0
     in-core remainder h k = absurd (false≢true h)
 
--- A list of entries.
+-- A file of rows.
 
-pub record GoodEntries (local : ℕ) (es : List Entry) : Type 0 where
-  pub each : Every (GoodEntry local) es
-  pub order : Ascending transactionOf es
+module _ {A : Type 0} (keyOf : A → ℕ) (Each : A → Type 0) where
+  -- rows that pass a test
+  kept-rows : (q : A → Bool) (l : List A) → GoodRows keyOf Each l → GoodRows keyOf Each (keep q l)
+  kept-rows q l g = record { each = every-keep Each q l (g .each); order = ascending-keep keyOf q l (g .order) }
 
--- the ledger with other entries
-pub with-entries : (p : Plain) (es : List Entry) → Good p → length es ≤ maxEntries → GoodEntries (p .local) es → Good (withEntries es p)
-with-entries p es g n h =
-    record {
-      local = g .local;
-      validity = g .validity;
-      coreSpan = g .coreSpan;
-      legSpan = g .legSpan;
-      entryCount = n;
-      entries = h .each;
-      entryOrder = h .order;
-      departureCount = g .departureCount;
-      departures = g .departures;
-      departureOrder = g .departureOrder;
-      rebuilt = g .rebuilt;
-    }
+  -- one row changed: f leaves its key, and keeps it good where it is the one
+  changed-rows : (t : ℕ) (f : A → A) (l : List A) → ((e : A) → keyOf (f e) ≡ keyOf e) → ((e : A) → get keyOf t l ≡ some e → Each e → Each (f e)) →
+      GoodRows keyOf Each l → GoodRows keyOf Each (change keyOf t f l)
+  changed-rows t f l k c g =
+      record { each = every-change keyOf Each t f l (g .order) c (g .each); order = ascending-changeIf keyOf (at keyOf t) f k l (g .order) }
 
-with-departures : (p : Plain) (ds : List Departure) → Good p → length ds ≤ maxDepartures → Every GoodDeparture ds → Ascending shardOf ds → Good (withDepartures ds p)
-with-departures p ds g n h o =
-    record {
-      local = g .local;
-      validity = g .validity;
-      coreSpan = g .coreSpan;
-      legSpan = g .legSpan;
-      entryCount = g .entryCount;
-      entries = g .entries;
-      entryOrder = g .entryOrder;
-      departureCount = n;
-      departures = h;
-      departureOrder = o;
-      rebuilt = g .rebuilt;
-    }
+  pub included-rows : (e : A) (l : List A) → Each e → GoodRows keyOf Each l → GoodRows keyOf Each (include keyOf e l)
+  included-rows e l h g = record { each = every-include keyOf Each e l h (g .each); order = ascending-include keyOf e l (g .order) }
+
+  module _ (limit : ℕ) where
+    kept-file : (q : A → Bool) (l : List A) → GoodFile keyOf Each limit l → GoodFile keyOf Each limit (keep q l)
+    kept-file q l g = record { count = omega (arith, g .count, length-keep q l); rows = kept-rows q l (g .rows) }
+
+    changed-file : (t : ℕ) (f : A → A) (l : List A) → ((e : A) → keyOf (f e) ≡ keyOf e) → ((e : A) → get keyOf t l ≡ some e → Each e → Each (f e)) →
+        GoodFile keyOf Each limit l → GoodFile keyOf Each limit (change keyOf t f l)
+    changed-file t f l k c g =
+        record { count = omega (arith, g .count, length-changeIf (at keyOf t) f l); rows = changed-rows t f l k c (g .rows) }
+
+-- the ledger with other entries, other departures, another count
+pub with-entries : (p : Plain) (es : List Entry) → Good p → GoodEntries (p .local) es → Good (withEntries es p)
+with-entries p es g h = record { frame = g .frame; entries = h; departures = g .departures; rebuilt = g .rebuilt }
+
+pub with-departures : (p : Plain) (ds : List Departure) → Good p → GoodDepartures ds → Good (withDepartures ds p)
+with-departures p ds g h = record { frame = g .frame; entries = g .entries; departures = h; rebuilt = g .rebuilt }
 
 pub with-rebuilt : (p : Plain) (n : ℕ) → Good p → n ≤ maxCount → Good (withRebuilt n p)
-with-rebuilt p n g h =
-    record {
-      local = g .local;
-      validity = g .validity;
-      coreSpan = g .coreSpan;
-      legSpan = g .legSpan;
-      entryCount = g .entryCount;
-      entries = g .entries;
-      entryOrder = g .entryOrder;
-      departureCount = g .departureCount;
-      departures = g .departures;
-      departureOrder = g .departureOrder;
-      rebuilt = h;
-    }
-
--- entries that pass a test
-kept-good : (local : ℕ) (q : Entry → Bool) (es : List Entry) → GoodEntries local es → GoodEntries local (keep q es)
-kept-good local q es g =
-    record { each = every-keep (GoodEntry local) q es (g .each); order = ascending-keep transactionOf q es (g .order) }
-
--- one entry changed: f leaves its transaction, and keeps it good where it is the one
-changed-good : (local t : ℕ) (f : Entry → Entry) (es : List Entry) → ((e : Entry) → transactionOf (f e) ≡ transactionOf e) →
-    ((e : Entry) → get transactionOf t es ≡ some e → GoodEntry local e → GoodEntry local (f e)) → GoodEntries local es → GoodEntries local (change transactionOf t f es)
-changed-good local t f es k c g =
-    record {
-      each = every-change transactionOf (GoodEntry local) t f es (g .order) c (g .each);
-      order = ascending-changeIf transactionOf (at transactionOf t) f k es (g .order);
-    }
-
-pub included-good : (local : ℕ) (e : Entry) (es : List Entry) → GoodEntry local e → GoodEntries local es → GoodEntries local (include transactionOf e es)
-included-good local e es h g =
-    record { each = every-include transactionOf (GoodEntry local) e es h (g .each); order = ascending-include transactionOf e es (g .order) }
-
-pub entries-of : (p : Plain) → Good p → GoodEntries (p .local) (p .entries)
-entries-of p g = record { each = g .entries; order = g .entryOrder }
+with-rebuilt p n g h = record { frame = g .frame; entries = g .entries; departures = g .departures; rebuilt = h }
 
 -- the ledger with entries kept, or with one changed
-keeps : (p : Plain) (q : Entry → Bool) → Good p → Good (withEntries (keep q (p .entries)) p)
-keeps p q g =
-    with-entries p (keep q (p .entries)) g (omega (arith, g .entryCount, length-keep q (p .entries))) (kept-good (p .local) q (p .entries) (entries-of p g))
+pub keeps : (p : Plain) (q : Entry → Bool) → Good p → Good (withEntries (keep q (p .entries)) p)
+keeps p q g = with-entries p (keep q (p .entries)) g (kept-file transactionOf (GoodEntry (p .local)) maxEntries q (p .entries) (g .entries))
 
 pub changes : (p : Plain) (t : ℕ) (f : Entry → Entry) → ((e : Entry) → transactionOf (f e) ≡ transactionOf e) →
     ((e : Entry) → get transactionOf t (p .entries) ≡ some e → GoodEntry (p .local) e → GoodEntry (p .local) (f e)) → Good p → Good (withEntries (change transactionOf t f (p .entries)) p)
 changes p t f k c g =
-    with-entries p (change transactionOf t f (p .entries)) g (omega (arith, g .entryCount, length-changeIf (at transactionOf t) f (p .entries)))
-    (changed-good (p .local) t f (p .entries) k c (entries-of p g))
+    with-entries p (change transactionOf t f (p .entries)) g (changed-file transactionOf (GoodEntry (p .local)) maxEntries t f (p .entries) k c (g .entries))
+
+abbrev Rows : ℕ → List Entry → Type 0
+Rows local es = GoodRows transactionOf (GoodEntry local) es
 
 -- Abandonment record: the entries stay good, and there are as many more as were rebuilt, which are the distinct transactions
 -- not yet owed.
 
-groups-kept : (local shard : ℕ) → isShard shard ≡ true → isDepartedBy shard ≡ true → (gs : List Terms) → Every GoodGroup gs → (es : List Entry) → GoodEntries local es → GoodEntries local (withGroups shard gs es)
+groups-kept : (local shard : ℕ) → isShard shard ≡ true → isDepartedBy shard ≡ true → (gs : List Terms) → Every GoodGroup gs → (es : List Entry) → Rows local es → Rows local (withGroups shard gs es)
 groups-kept local shard s n [] v es g = g
 groups-kept local shard s n (t ∷ gs) v es g =
     groups-kept local shard s n gs (v .1) (withGroup shard t es)
-    (by-cond (GoodEntries local) (has transactionOf (t .transaction) es) _ _
-    (λ _. changed-good local (t .transaction) (withDepartedBy shard) es (λ e. refl) (λ e _ h. departedBy-good local e h shard n) g)
-    (λ _. included-good local (rebuilt shard t) es (rebuilt-good local shard t s n (v .0)) g))
+    (by-cond (Rows local) (has transactionOf (t .transaction) es) _ _
+    (λ _. changed-rows transactionOf (GoodEntry local) (t .transaction) (withDepartedBy shard) es (λ e. refl) (λ e _ h. departedBy-good local e h shard n) g)
+    (λ _. included-rows transactionOf (GoodEntry local) (rebuilt shard t) es (rebuilt-good local shard t s n (v .0)) g))
 
 pub groups-count : (shard : ℕ) (gs : List Terms) (es : List Entry) → length (withGroups shard gs es) ≡ length es + rebuiltBy shard gs es
 groups-count shard [] es = omega arith
@@ -271,7 +231,7 @@ ruling-kept local ds l es g = found (get transactionOf (l .transaction) es) refl
   where
     resolved : (e : Entry) → get transactionOf (l .transaction) es ≡ some e → isCore (e .part) && owes local (e .terms) ≡ true → GoodEntries local (ruled resolve (l .transaction) es)
     resolved e q h =
-        changed-good local (l .transaction) (withPart remainder) es (λ x. refl)
+        changed-file transactionOf (GoodEntry local) maxEntries (l .transaction) (withPart remainder) es (λ x. refl)
         (λ x q′ k. let same : x ≡ e = cc in resolved-good local x (rw same (and-left (isCore (e .part)) _ h)) (rw same (and-right (isCore (e .part)) _ h)) k) g
 
     found : (o : Option Entry) → get transactionOf (l .transaction) es ≡ o → GoodEntries local (ruled (ruling local ds l o) (l .transaction) es)
@@ -281,22 +241,11 @@ ruling-kept local ds l es g = found (get transactionOf (l .transaction) es) refl
         (λ _. g)
         (λ _. by-cond (λ r. GoodEntries local (ruled r (l .transaction) es)) (eqb (l .decision) 1 && (isCore (e .part) && owes local (e .terms))) resolve release
         (λ h. resolved e q (and-right (eqb (l .decision) 1) _ h))
-        (λ _. kept-good local (λ x. not (eqb (transactionOf x) (l .transaction))) es g))
-
-ruling-few : (r : Ruling) (t : ℕ) (es : List Entry) → length (ruled r t es) ≤ length es
-ruling-few skip t es = omega arith
-ruling-few resolve t es = omega (arith, length-changeIf (at transactionOf t) (withPart remainder) es)
-ruling-few release t es = length-keep (λ x. not (eqb (transactionOf x) t)) es
+        (λ _. kept-file transactionOf (GoodEntry local) maxEntries (λ x. not (eqb (transactionOf x) (l .transaction))) es g))
 
 lines-kept : (local : ℕ) (ds : List ℕ) (ls : List Line) (es : List Entry) → GoodEntries local es → GoodEntries local (withLines local ds ls es)
 lines-kept local ds [] es g = g
 lines-kept local ds (l ∷ ls) es g = lines-kept local ds ls _ (ruling-kept local ds l es g)
-
-lines-few : (local : ℕ) (ds : List ℕ) (ls : List Line) (es : List Entry) → length (withLines local ds ls es) ≤ length es
-lines-few local ds [] es = omega arith
-lines-few local ds (l ∷ ls) es =
-    let r = ruling local ds l (get transactionOf (l .transaction) es) in
-    omega (arith, lines-few local ds ls (ruled r (l .transaction) es), ruling-few r (l .transaction) es)
 
 -- The calls.
 
@@ -309,7 +258,7 @@ room-for-one : (p : Plain) → Good p → (t : ℕ) (e : Entry) → transactionO
 room-for-one p g t e q room = go (owed t p) refl room
   where
     go : (b : Bool) → owed t p ≡ b → ltb (48 - length (p .entries)) (length (consIf (not b) t [])) ≡ false → length (include transactionOf e (p .entries)) ≤ 48
-    go true h r = rw (include-known transactionOf e (p .entries) (g .entryOrder) (rw q h)) (g .entryCount)
+    go true h r = rw (include-known transactionOf e (p .entries) (g .entries .rows .order) (rw q h)) (g .entries .count)
     go false h r = omega (arith, length-include transactionOf e (p .entries), ltb-false (48 - length (p .entries)) 1 r)
 
 admission-kept : (ws : List ℕ) (p : Plain) → Every (Holds isWord) ws → Good p → Good (afterAdmission ws p .ledger)
@@ -322,8 +271,10 @@ admission-kept ws p v g =
     let room = passed (noRoomFor (admissionTerms ws .transaction ∷ []) p) 5 0 (s .1) .0 in
     let new = admitted (p .local) ws in
     with-entries p (include transactionOf new (p .entries)) g
-    (room-for-one p g (admissionTerms ws .transaction) new (admitted-transaction (p .local) ws) room)
-    (included-good (p .local) new (p .entries) (admitted-good (p .local) ws v (f .0) (t .0) (s .0)) (entries-of p g))
+    (record {
+      count = room-for-one p g (admissionTerms ws .transaction) new (admitted-transaction (p .local) ws) room;
+      rows = included-rows transactionOf (GoodEntry (p .local)) new (p .entries) (admitted-good (p .local) ws v (f .0) (t .0) (s .0)) (g .entries .rows);
+    })
 
 -- a pair that is read already is not put in again; a new one finds room
 absence-room : (local : ℕ) (a : Absence) (e : Entry) → GoodEntry local e → not (isRead a e) && leb maxAbsences (length (e .absences)) ≡ false → length (include absenceKey a (e .absences)) ≤ maxAbsences
@@ -365,8 +316,10 @@ abandonment-kept ws p v g =
     let room = ltb-false (48 - length (p .entries)) (length (unowed (groupTransactions gs) p)) (passed (noRoomFor (groupTransactions gs) p) 5 0 (s .1) .0) in
     with-rebuilt (withEntries (withGroups (recordShard ws) gs (p .entries)) p) _
     (with-entries p (withGroups (recordShard ws) gs (p .entries)) g
-    (omega (arith, room, g .entryCount, groups-count (recordShard ws) gs (p .entries), rebuilt-count (recordShard ws) gs (p .entries)))
-    (groups-kept (p .local) (recordShard ws) (s .0) (departedBy-shard (recordShard ws) (s .0)) gs (groups-good ws v (f .0) (t .0)) (p .entries) (entries-of p g)))
+    (record {
+      count = omega (arith, room, g .entries .count, groups-count (recordShard ws) gs (p .entries), rebuilt-count (recordShard ws) gs (p .entries));
+      rows = groups-kept (p .local) (recordShard ws) (s .0) (departedBy-shard (recordShard ws) (s .0)) gs (groups-good ws v (f .0) (t .0)) (p .entries) (g .entries .rows);
+    }))
     (omega arith)
 
 mark-kept : (r t : ℕ) (isReturn : Bool) (p : Plain) → Good p → Good (afterMark r t isReturn p .ledger)
@@ -389,8 +342,7 @@ finalization-kept : (ws : List ℕ) (p : Plain) → Good p → Good (afterFinali
 unfolding afterFinalization
 finalization-kept ws p g =
     unless-good Good (finalizationRefusal ws) p _ g λ e.
-    with-entries p _ g (omega (arith, g .entryCount, lines-few (p .local) (deciding ws) (finalizationLines ws) (p .entries)))
-    (lines-kept (p .local) (deciding ws) (finalizationLines ws) (p .entries) (entries-of p g))
+    with-entries p _ g (lines-kept (p .local) (deciding ws) (finalizationLines ws) (p .entries) (g .entries))
 
 forget-kept : (t : ℕ) (p : Plain) → Good p → Good (afterForget t p .ledger)
 unfolding afterForget
@@ -406,9 +358,7 @@ stamped-good until h d g = record { shard = g .shard; cut = g .cut; stamp = firs
 stamps : (p : Plain) (shard until : ℕ) (ds : List Departure) → isTime until ≡ true → Good (withDepartures ds p) → Good (withDepartures (change shardOf shard (stamped until) ds) p)
 stamps p shard until ds h g =
     with-departures (withDepartures ds p) (change shardOf shard (stamped until) ds) g
-    (omega (arith, g .departureCount, length-changeIf (at shardOf shard) (stamped until) ds))
-    (every-changeIf GoodDeparture (at shardOf shard) (stamped until) ds (stamped-good until h) (g .departures))
-    (ascending-changeIf shardOf (at shardOf shard) (stamped until) (λ d. refl) ds (g .departureOrder))
+    (changed-file shardOf GoodDeparture maxDepartures shard (stamped until) ds (λ d. refl) (λ d _. stamped-good until h d) (g .departures))
 
 terminal-kept : (shard cut isStamped until : ℕ) (p : Plain) → Good p → Good (afterTerminal shard cut isStamped until p .ledger)
 unfolding afterTerminal
@@ -422,14 +372,16 @@ terminal-kept shard cut isStamped until p g =
     let ds = departed shard cut (p .departures) in
     let new : Departure = record { shard = shard; cut = cut; stamp = none } in
     let on : Good (withDepartures ds p) =
-    with-departures p ds g (few new (has shardOf shard (p .departures)) refl room)
-    (every-include shardOf GoodDeparture new (p .departures) (record { shard = s .0; cut = times; stamp = tt }) (g .departures))
-    (ascending-include shardOf new (p .departures) (g .departureOrder)) in
+    with-departures p ds g
+    (record {
+      count = few new (has shardOf shard (p .departures)) refl room;
+      rows = included-rows shardOf GoodDeparture new (p .departures) (record { shard = s .0; cut = times; stamp = tt }) (g .departures .rows);
+    }) in
     by-cond (λ l. Good (withDepartures l p)) (eqb isStamped 0) ds _ (λ _. on)
     (λ u. stamps p shard until ds (rw u at (and-right (isTime cut) (eqb isStamped 0 || isTime until) (t .0))) on)
   where
     few : (d : Departure) (b : Bool) → has shardOf (d .shard) (p .departures) ≡ b → not b && leb 32 (length (p .departures)) ≡ false → length (include shardOf d (p .departures)) ≤ 32
-    few d true k q = rw (include-known shardOf d (p .departures) (g .departureOrder) k) (g .departureCount)
+    few d true k q = rw (include-known shardOf d (p .departures) (g .departures .rows .order) k) (g .departures .count)
     few d false k q = omega (arith, length-include shardOf d (p .departures), leb-false 32 (length (p .departures)) q)
 
 stamp-kept : (shard until : ℕ) (p : Plain) → Good p → Good (afterStamp shard until p .ledger)
@@ -442,9 +394,7 @@ unfolding pruned survivors
 pruned-kept now p g =
     let q = remains (p .local) (survivors now p) in
     with-departures (withEntries (survivors now p) p) (keep q (p .departures)) (keeps p (stands p now) g)
-    (omega (arith, g .departureCount, length-keep q (p .departures)))
-    (every-keep GoodDeparture q (p .departures) (g .departures))
-    (ascending-keep shardOf q (p .departures) (g .departureOrder))
+    (kept-file shardOf GoodDeparture maxDepartures q (p .departures) (g .departures))
 
 prune-kept : (now room : ℕ) (p : Plain) → Good p → Good (afterPrune now room p .ledger)
 unfolding afterPrune
@@ -473,16 +423,9 @@ run-good (c ∷ cs) v p g = run-good cs (v .1) (step c p .ledger) (step-good c (
 empty-good : (local v c l : ℕ) → isShard local ≡ true → isSpan v ≡ true → isSpan c ≡ true → isSpan l ≡ true → Good (empty local v c l)
 empty-good local v c l s hv hc hl =
     record {
-      local = s;
-      validity = hv;
-      coreSpan = hc;
-      legSpan = hl;
-      entryCount = omega arith;
-      entries = tt;
-      entryOrder = tt;
-      departureCount = omega arith;
-      departures = tt;
-      departureOrder = tt;
+      frame = record { local = s; validity = hv; coreSpan = hc; legSpan = hl };
+      entries = record { count = omega arith; rows = record { each = tt; order = tt } };
+      departures = record { count = omega arith; rows = record { each = tt; order = tt } };
       rebuilt = omega arith;
     }
 

@@ -57,7 +57,7 @@ indexOf-words local (e ∷ es) v =
     (pairsOf-words local e (v .0)) (indexOf-words local es (v .1))
 
 pub good-words : {p : Plain} → Good p → Every IsOfWord (p .entries)
-good-words {p} g = every-more (GoodEntry (p .local)) IsOfWord (λ e v. v .terms .transaction) (p .entries) (g .entries)
+good-words {p} g = every-more (GoodEntry (p .local)) IsOfWord (λ e v. v .terms .transaction) (p .entries) (g .entries .rows .each)
 
 -- The index names what is listed.
 abbrev isNamedBy : ℕ → ℕ → Pair → Bool
@@ -102,5 +102,5 @@ index-size p g =
     omega (
       arith,
       indexOf-size (p .local) (p .entries)
-          (every-more (GoodEntry (p .local)) _ (λ e v. v .terms .edgeCount) (p .entries) (g .entries)),
+          (every-more (GoodEntry (p .local)) _ (λ e v. v .terms .edgeCount) (p .entries) (g .entries .rows .each)),
     )

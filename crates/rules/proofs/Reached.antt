@@ -255,10 +255,10 @@ good-reached p g =
     let p₀ = empty (p .local) (p .validity) (p .coreSpan) (p .legSpan) in
     let p₁ = withRebuilt (p .rebuilt) p₀ in
     let p₂ = withDepartures (p .departures) p₁ in
-    rw (made-empty (p .local) (p .validity) (p .coreSpan) (p .legSpan) (g .local) (g .validity) (g .coreSpan) (g .legSpan))
+    rw (made-empty (p .local) (p .validity) (p .coreSpan) (p .legSpan) (g .frame .local) (g .frame .validity) (g .frame .coreSpan) (g .frame .legSpan))
     (and-then (counted (p .local) (p .validity) (p .coreSpan) (p .legSpan) (p .rebuilt) (g .rebuilt))
-    (and-then (all-depart p₁ (p .departures) (g .departureCount) (g .departures) (g .departureOrder))
-    (all-enter p₂ (g .rebuilt) (p .entries) (g .entryCount) (g .entries) (g .entryOrder))))
+    (and-then (all-depart p₁ (p .departures) (g .departures .count) (g .departures .rows .each) (g .departures .rows .order))
+    (all-enter p₂ (g .rebuilt) (p .entries) (g .entries .count) (g .entries .rows .each) (g .entries .rows .order))))
 
 pub reached-good : (p : Plain) → Reached p → Good p
 reached-good p r = subst Good (r .leads) (run-good (r .calls) (r .words) _ (making-good (p .local) (p .validity) (p .coreSpan) (p .legSpan)))

@@ -1,10 +1,10 @@
 -- Paper, 'Entries, parts, index': how an entry comes to be and what each kind of call changes of it.
-use Prim.Native.Nat.{ℕ, _+_}
+use Prim.Native.Nat.{ℕ}
 use mathlib.Core.Bool.{Bool, false, cond, not, _&&_, _||_}
-use mathlib.Core.List.{List, [], _∷_}
+use mathlib.Core.List.{List, []}
 use mathlib.Core.Option.{Option, none, some}
 use lib.Dec.{eqb, ltb}
-use Rattle.lists.specs.Lists.{all, filled, has, get, include, without, change, self}
+use Rattle.lists.specs.Lists.{all, filled, has, get, include, without, change, through, tally, self}
 use Rattle.rules.specs.Plain.{Part, whole, leg, core, remainder, Terms, Absence, Entry, isCore, isSettling, transactionOf, absenceKey, issued, issues, owes}
 use Rattle.rules.specs.Words.{decomposed, coreIn, admissionTerms, Line}
 
@@ -142,15 +142,16 @@ withGroup shard g es =
     (change transactionOf (g .transaction) (withDepartedBy shard) es)
     (include transactionOf (rebuilt shard g) es)
 
+-- how many it rebuilds
+abbrev pub rebuiltOf : Terms → List Entry → ℕ
+rebuiltOf g es = cond (has transactionOf (g .transaction) es) 0 1
+
 -- group by group; and how many are rebuilt
 abbrev pub withGroups : ℕ → List Terms → List Entry → List Entry
-withGroups shard [] es = es
-withGroups shard (g ∷ gs) es = withGroups shard gs (withGroup shard g es)
+withGroups shard gs es = through (withGroup shard) gs es
 
 abbrev pub rebuiltBy : ℕ → List Terms → List Entry → ℕ
-rebuiltBy shard [] es = 0
-rebuiltBy shard (g ∷ gs) es =
-    cond (has transactionOf (g .transaction) es) 0 1 + rebuiltBy shard gs (withGroup shard g es)
+rebuiltBy shard gs es = tally (withGroup shard) rebuiltOf gs es
 
 -- Finalization, a line: what is done with the entry that it names
 pub data Ruling : Type 0 where
@@ -179,15 +180,19 @@ isRelease skip = 0
 isRelease resolve = 0
 isRelease release = 1
 
+-- the ruling of a line on the entry that it names, what it makes of the entries, and how many it releases
+abbrev pub rulingIn : ℕ → List ℕ → Line → List Entry → Ruling
+rulingIn local deciding l es = ruling local deciding l (get transactionOf (l .transaction) es)
+
+abbrev pub withLine : ℕ → List ℕ → Line → List Entry → List Entry
+withLine local deciding l es = ruled (rulingIn local deciding l es) (l .transaction) es
+
+abbrev pub releasedOf : ℕ → List ℕ → Line → List Entry → ℕ
+releasedOf local deciding l es = isRelease (rulingIn local deciding l es)
+
 -- line by line; and how many are released
 abbrev pub withLines : ℕ → List ℕ → List Line → List Entry → List Entry
-withLines local deciding [] es = es
-withLines local deciding (l ∷ ls) es =
-    withLines local deciding ls
-    (ruled (ruling local deciding l (get transactionOf (l .transaction) es)) (l .transaction) es)
+withLines local deciding ls es = through (withLine local deciding) ls es
 
 abbrev pub releasedBy : ℕ → List ℕ → List Line → List Entry → ℕ
-releasedBy local deciding [] es = 0
-releasedBy local deciding (l ∷ ls) es =
-    let r : Ruling = ruling local deciding l (get transactionOf (l .transaction) es) in
-    isRelease r + releasedBy local deciding ls (ruled r (l .transaction) es)
+releasedBy local deciding ls es = tally (withLine local deciding) (releasedOf local deciding) ls es

@@ -84,17 +84,34 @@ pub record GoodDeparture (d : Departure) : Type 0 where
   pub cut : isTime (d .cut) ≡ true
   pub stamp : GoodStamp (d .stamp)
 
+-- rows of a file: each is good, and they lie by rising key, none twice
+pub record GoodRows {A : Type 0} (keyOf : A → ℕ) (Each : A → Type 0) (l : List A) : Type 0 where
+  pub each : Every Each l
+  pub order : Ascending keyOf l
+
+-- and there are no more than a limit
+pub record GoodFile {A : Type 0} (keyOf : A → ℕ) (Each : A → Type 0) (limit : ℕ) (l : List A) : Type 0 where
+  pub count : length l ≤ limit
+  pub rows : GoodRows keyOf Each l
+
+abbrev pub GoodEntries : ℕ → List Entry → Type 0
+GoodEntries local es = GoodFile transactionOf (GoodEntry local) maxEntries es
+
+abbrev pub GoodDepartures : List Departure → Type 0
+GoodDepartures ds = GoodFile shardOf GoodDeparture maxDepartures ds
+
+-- what a making sets and no call changes
+pub record GoodFrame (home v c l : ℕ) : Type 0 where
+  pub local : isShard home ≡ true
+  pub validity : isSpan v ≡ true
+  pub coreSpan : isSpan c ≡ true
+  pub legSpan : isSpan l ≡ true
+
+-- in groups, so that a change of one part proves that part
 pub record Good (p : Plain) : Type 0 where
-  pub local : isShard (p .local) ≡ true
-  pub validity : isSpan (p .validity) ≡ true
-  pub coreSpan : isSpan (p .coreSpan) ≡ true
-  pub legSpan : isSpan (p .legSpan) ≡ true
-  pub entryCount : length (p .entries) ≤ maxEntries
-  pub entries : Every (GoodEntry (p .local)) (p .entries)
-  pub entryOrder : Ascending transactionOf (p .entries)
-  pub departureCount : length (p .departures) ≤ maxDepartures
-  pub departures : Every GoodDeparture (p .departures)
-  pub departureOrder : Ascending shardOf (p .departures)
+  pub frame : GoodFrame (p .local) (p .validity) (p .coreSpan) (p .legSpan)
+  pub entries : GoodEntries (p .local) (p .entries)
+  pub departures : GoodDepartures (p .departures)
   pub rebuilt : p .rebuilt ≤ maxCount
 
 -- of a call's numbers, those that the ledger keeps and the table does not check are words

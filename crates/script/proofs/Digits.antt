@@ -79,18 +79,18 @@ unfolding numberOf
 no-token [] h = refl
 no-token (b ∷ l) h = absurd (omega arith)
 
--- the same digits for a token from place i on
-pub at-taken : (l : List ℕ) (i v w : ℕ) → i < length l → Is w ≡ valued v (getD l i 0 ∷ []) → valued v (drop i l) ≡ numberOf l →
-    (valued w (drop (suc i) l) ≡ numberOf l) × (w < 18446744073709551616)
-at-taken l i v w h e p =
-    let q : (valued v (getD l i 0 ∷ drop (suc i) l) ≡ valued w (drop (suc i) l)) × (w < 18446744073709551616) = taken v (getD l i 0) w (drop (suc i) l) e in
-    (sym (q .0) ∙ sym (ap (valued v) (drop-cons l i 0 h)) ∙ p, q .1)
+-- a number that a token's first i digits make: the next byte is a digit that fits, or not, or none is left
+module _ (l : List ℕ) (i v : ℕ) (rest : valued v (drop i l) ≡ numberOf l) where
+  pub at-taken : (w : ℕ) → i < length l → Is w ≡ valued v (getD l i 0 ∷ []) → (valued w (drop (suc i) l) ≡ numberOf l) × (w < 18446744073709551616)
+  at-taken w h e =
+      let q : (valued v (getD l i 0 ∷ drop (suc i) l) ≡ valued w (drop (suc i) l)) × (w < 18446744073709551616) = taken v (getD l i 0) w (drop (suc i) l) e in
+      (sym (q .0) ∙ sym (ap (valued v) (drop-cons l i 0 h)) ∙ rest, q .1)
 
-pub at-refused : (l : List ℕ) (i v : ℕ) → i < length l → Not ≡ valued v (getD l i 0 ∷ []) → valued v (drop i l) ≡ numberOf l → Not ≡ numberOf l
-at-refused l i v h e p = sym (refused v (getD l i 0) (drop (suc i) l) e) ∙ sym (ap (valued v) (drop-cons l i 0 h)) ∙ p
+  pub at-refused : i < length l → Not ≡ valued v (getD l i 0 ∷ []) → Not ≡ numberOf l
+  at-refused h e = sym (refused v (getD l i 0) (drop (suc i) l) e) ∙ sym (ap (valued v) (drop-cons l i 0 h)) ∙ rest
 
-pub at-end : (l : List ℕ) (i v : ℕ) → length l ≤ i → v < 18446744073709551616 → valued v (drop i l) ≡ numberOf l → Is v ≡ numberOf l
-at-end l i v h b p = sym (done v b) ∙ sym (ap (valued v) (drop-of-length-le l h)) ∙ p
+  pub at-end : length l ≤ i → v < 18446744073709551616 → Is v ≡ numberOf l
+  at-end h b = sym (done v b) ∙ sym (ap (valued v) (drop-of-length-le l h)) ∙ rest
 
 -- a store at k, seen from k on
 pub stored : (l : List ℕ) (k a : ℕ) → k < length l → drop k (set l k a) ≡ a ∷ drop (suc k) l

@@ -5,6 +5,7 @@ use mathlib.Core.Path.{_≡_, refl, sym, ap, _∙_}
 use mathlib.Core.Bool.{Bool, true, false, cond}
 use mathlib.Core.List.{List, [], _∷_, _++_, append-assoc, append-nil}
 use native.Mathlib.Omega.{arith}
+use native.Mathlib.Nat.{add-zero}
 use native.Mathlib.Numerals.{add-one}
 use lib.Dec.{eqb, ltb, leb}
 use lib.ListN.{length, take, drop, getD, set, drop-of-length-le}
@@ -15,7 +16,7 @@ use Rattle.script.specs.declared.numbers.Number.the-variants.{Is, Not}
 use Rattle.script.specs.declared.parts.Tail.{Tail}
 use Rattle.script.specs.Decimal.{numberOf}
 use Rattle.script.specs.Texts.{sameText}
-use Rattle.script.specs.Grammar.{onto, tokens, wordLength, behind, noTail, lentNumber, lentOf, onward, tailOf, lentText, numbersOf}
+use Rattle.script.specs.Grammar.{onto, tokens, upTo, wordLength, behind, noTail, lentNumber, lentOf, onward, tailOf, lentText, numbersOf}
 
 -- texts of two lengths differ
 pub apart : (a b : List ℕ) → (length a ≡ length b → ⊥) → false ≡ sameText a b
@@ -33,37 +34,35 @@ same-cons : (x y : ℕ) (a b : List ℕ) → sameText (x ∷ a) (y ∷ b) ≡ co
 unfolding sameText
 same-cons x y a b = refl
 
--- the next bytes are the same, or differ
-pub same-on : (a b : List ℕ) (i : ℕ) (s : Bool) → i < length a → i < length b → getD a i 0 ≡ getD b i 0 →
-    sameText (drop i a) (drop i b) ≡ s → sameText (drop (suc i) a) (drop (suc i) b) ≡ s
-same-on a b i s h k e p =
-    sym (rw (drop-cons a i 0 h, drop-cons b i 0 k, same-cons, eq-eqb (getD a i 0) (getD b i 0) e) refl) ∙ p
+-- of two texts the first i bytes are the same: the next ones are too, or differ, or none is left
+module _ (a b : List ℕ) (i : ℕ) (s : Bool) (rest : sameText (drop i a) (drop i b) ≡ s) where
+  pub same-on : i < length a → i < length b → getD a i 0 ≡ getD b i 0 → sameText (drop (suc i) a) (drop (suc i) b) ≡ s
+  same-on h k e = sym (rw (drop-cons a i 0 h, drop-cons b i 0 k, same-cons, eq-eqb (getD a i 0) (getD b i 0) e) refl) ∙ rest
 
-pub same-off : (a b : List ℕ) (i : ℕ) (s : Bool) → i < length a → i < length b → (getD a i 0 ≡ getD b i 0 → ⊥) →
-    sameText (drop i a) (drop i b) ≡ s → false ≡ s
-same-off a b i s h k e p =
-    sym (rw (drop-cons a i 0 h, drop-cons b i 0 k, same-cons, ne-eqb (getD a i 0) (getD b i 0) e) refl) ∙ p
+  pub same-off : i < length a → i < length b → (getD a i 0 ≡ getD b i 0 → ⊥) → false ≡ s
+  same-off h k e = sym (rw (drop-cons a i 0 h, drop-cons b i 0 k, same-cons, ne-eqb (getD a i 0) (getD b i 0) e) refl) ∙ rest
 
-pub same-end : (a b : List ℕ) (i : ℕ) (s : Bool) → length a ≤ i → length b ≤ i → sameText (drop i a) (drop i b) ≡ s → true ≡ s
-unfolding sameText
-same-end a b i s h k p = sym (rw (drop-of-length-le a {i = i} h, drop-of-length-le b {i = i} k) refl) ∙ p
+  pub same-end : length a ≤ i → length b ≤ i → true ≡ s
+  unfolding sameText
+  same-end h k = sym (rw (drop-of-length-le a {i = i} h, drop-of-length-le b {i = i} k) refl) ∙ rest
 
--- the first token ends at a space, or goes on
-pub word-stop : (l : List ℕ) (i : ℕ) → i < length l → getD l i 0 ≡ 32 → wordLength (drop i l) ≡ 0
-unfolding wordLength
-word-stop l i h e = rw (drop-cons l i 0 h, eq-eqb (getD l i 0) 32 e) refl
+-- of a text i bytes are passed: the next is the one that is looked for, or not, or none is left
+module _ (byte : ℕ) (l : List ℕ) (i s : ℕ) (rest : i + upTo byte (drop i l) ≡ s) where
+  pub found : i < length l → getD l i 0 ≡ byte → i ≡ s
+  unfolding upTo
+  found h e = sym (rw (drop-cons l i 0 h, eq-eqb (getD l i 0) byte e, add-zero) refl) ∙ rest
 
-pub word-on : (l : List ℕ) (i : ℕ) → i < length l → (getD l i 0 ≡ 32 → ⊥) → wordLength (drop i l) ≡ suc (wordLength (drop (suc i) l))
-unfolding wordLength
-word-on l i h e = rw (drop-cons l i 0 h, ne-eqb (getD l i 0) 32 e) refl
+  pub passed : i < length l → (getD l i 0 ≡ byte → ⊥) → suc i + upTo byte (drop (suc i) l) ≡ s
+  unfolding upTo
+  passed h e = sym (rw (drop-cons l i 0 h, ne-eqb (getD l i 0) byte e) (omega arith)) ∙ rest
 
-pub word-end : (l : List ℕ) (i : ℕ) → length l ≤ i → wordLength (drop i l) ≡ 0
-unfolding wordLength
-word-end l i h = rw (drop-of-length-le l {i = i} h) refl
+  pub unfound : length l ≤ i → i ≡ s
+  unfolding upTo
+  unfound h = sym (rw (drop-of-length-le l {i = i} h, add-zero) refl) ∙ rest
 
 -- a text is its first token and what stands behind it
 pub cut : (l : List ℕ) → tokens l ≡ take (wordLength l) l ∷ behind (drop (wordLength l) l)
-unfolding tokens wordLength behind
+unfolding tokens upTo behind
 cut [] = refl
 cut (b ∷ l) = cut' (eqb b 32) b l (cut l)
   where
@@ -151,35 +150,35 @@ tail-small k (t ∷ ts) h =
     (on-small (numberOf t) (ltb k 2048) (tailOf (k + 1) ts) (λ e. tail-small (k + 1) ts (omega (arith, ltb-true k 2048 e))))
 
 -- one token more
-module _ (l : List ℕ) (i e k : ℕ) (h : i < length l) (p : e ≡ i + 1 + wordLength (drop (i + 1) l)) where
+module _ (l : List ℕ) (i e : ℕ) (h : i < length l) (p : e ≡ i + 1 + wordLength (drop (i + 1) l)) where
   abbrev token : List ℕ
   token = take (e - (i + 1)) (drop (i + 1) l)
 
-  pub tail-lent : true ≡ sameText token lentText → tailOf k (behind (drop i l)) ≡ lentOf k (behind (drop e l))
+  pub tail-lent : (k : ℕ) → true ≡ sameText token lentText → tailOf k (behind (drop i l)) ≡ lentOf k (behind (drop e l))
   unfolding tailOf
-  tail-lent s = ap (tailOf k) (turn l i e h p) ∙ rw (← s) refl
+  tail-lent k s = ap (tailOf k) (turn l i e h p) ∙ rw (← s) refl
 
   pub numbers-lent : true ≡ sameText token lentText → numbersOf (behind (drop i l)) ≡ []
   unfolding numbersOf
   numbers-lent s = ap numbersOf (turn l i e h p) ∙ rw (← s) refl
 
-  pub tail-number : (n : ℕ) → false ≡ sameText token lentText → Is n ≡ numberOf token → k < 2048 →
+  pub tail-number : (k n : ℕ) → false ≡ sameText token lentText → Is n ≡ numberOf token → k < 2048 →
       tailOf k (behind (drop i l)) ≡ tailOf (k + 1) (behind (drop e l))
   unfolding tailOf
-  tail-number n s x b = ap (tailOf k) (turn l i e h p) ∙ rw (← s, ← x, lt-ltb k 2048 b) refl
+  tail-number k n s x b = ap (tailOf k) (turn l i e h p) ∙ rw (← s, ← x, lt-ltb k 2048 b) refl
 
   pub numbers-number : (n : ℕ) → false ≡ sameText token lentText → Is n ≡ numberOf token →
       numbersOf (behind (drop i l)) ≡ n ∷ numbersOf (behind (drop e l))
   unfolding numbersOf
   numbers-number n s x = ap numbersOf (turn l i e h p) ∙ rw (← s, ← x) refl
 
-  pub tail-not : false ≡ sameText token lentText → Not ≡ numberOf token → tailOf k (behind (drop i l)) ≡ noTail
+  pub tail-not : (k : ℕ) → false ≡ sameText token lentText → Not ≡ numberOf token → tailOf k (behind (drop i l)) ≡ noTail
   unfolding tailOf
-  tail-not s x = ap (tailOf k) (turn l i e h p) ∙ rw (← s, ← x) refl
+  tail-not k s x = ap (tailOf k) (turn l i e h p) ∙ rw (← s, ← x) refl
 
-  pub tail-many : (n : ℕ) → false ≡ sameText token lentText → Is n ≡ numberOf token → 2048 ≤ k → tailOf k (behind (drop i l)) ≡ noTail
+  pub tail-many : (k n : ℕ) → false ≡ sameText token lentText → Is n ≡ numberOf token → 2048 ≤ k → tailOf k (behind (drop i l)) ≡ noTail
   unfolding tailOf
-  tail-many n s x b = ap (tailOf k) (turn l i e h p) ∙ rw (← s, ← x, le-ltb k 2048 b) refl
+  tail-many k n s x b = ap (tailOf k) (turn l i e h p) ∙ rw (← s, ← x, le-ltb k 2048 b) refl
 
 -- the end of the line
 pub tail-end : (l : List ℕ) (i k : ℕ) → length l ≤ i → tailOf k (behind (drop i l)) ≡ record { good = true; lends = false; count = k; lent = 0 }

@@ -8,7 +8,7 @@ use Rattle.script.specs.declared.numbers.Number.{Number}
 use Rattle.script.specs.declared.numbers.Number.the-variants.{Is, Not}
 use Rattle.script.specs.declared.parts.Tail.{Tail}
 use Rattle.script.specs.Decimal.{numberOf}
-use Rattle.script.specs.Texts.{sameText}
+use Rattle.script.specs.Texts.{bytes, sameText}
 
 abbrev pub onto : ℕ → List (List ℕ) → List (List ℕ)
 onto b [] = (b ∷ []) ∷ []
@@ -19,19 +19,22 @@ unfoldable pub tokens : List ℕ → List (List ℕ)
 tokens [] = [] ∷ []
 tokens (b ∷ l) = cond (eqb b 32) ([] ∷ tokens l) (onto b (tokens l))
 
+-- how many bytes stand before the first that is `end`
+unfoldable pub upTo : ℕ → List ℕ → ℕ
+upTo end [] = zero
+upTo end (b ∷ l) = cond (eqb b end) zero (suc (upTo end l))
+
 -- how long the first token is
-unfoldable pub wordLength : List ℕ → ℕ
-wordLength [] = zero
-wordLength (b ∷ l) = cond (eqb b 32) zero (suc (wordLength l))
+abbrev pub wordLength : List ℕ → ℕ
+wordLength l = upTo 32 l
 
 -- the tokens behind a first one, of a text that begins where it ends: at a space, or at the end
 unfoldable pub behind : List ℕ → List (List ℕ)
 behind [] = []
 behind (b ∷ l) = tokens l
 
--- `lent`
 abbrev pub lentText : List ℕ
-lentText = 108 ∷ 101 ∷ 110 ∷ 116 ∷ []
+lentText = bytes "lent"
 
 abbrev pub noTail : Tail
 noTail = record { good = false; lends = false; count = 0; lent = 0 }

@@ -8,6 +8,7 @@ ghost use Rattle.script.specs.Lines.{Within};
 ghost use Prim.Native.Nat.{_+_, _≤_, _<_};
 ghost use mathlib.Core.Path.{_≡_};
 ghost use lib.ListN.{length};
+use crate::tokens::first_of;
 
 // What `next_line` found: a line, the end of the input, or a line that does not fit.
 pub const AT_LINE: u8 = 0;
@@ -112,14 +113,7 @@ fn newline(buf: &[u8], from: usize, to: usize) -> usize
     requires { ⌜ (from ≤ to) × (to ≤ length (now buf)) ⌝ }
     ensures { λ r. ⌜ (from ≤ r) × (r ≤ to) ⌝ }
 {
-    let mut i = from;
-    while i < to {
-        if buf[i] == b'\n' {
-            return i;
-        }
-        i += 1;
-    }
-    to
+    first_of(b'\n', &buf[0..to], from)
 }
 
 // Brings what is not handed out to the front, makes room, and reads once.

@@ -13,6 +13,7 @@ ghost use Prim.Native.Nat.{_+_, _≤_, _<_};
 ghost use mathlib.Core.Bool.{true};
 ghost use lib.ListN.{length, take, drop};
 ghost use Rattle.script.specs.Texts.{sameText};
+ghost use Rattle.script.specs.Calls.{codes};
 ghost use Rattle.script.specs.Grammar.{behind, tailOf, numbersOf, lentText, lentOf, lentNumber, noTail};
 ghost use Rattle.script.specs.Lines.{Within};
 ghost use Rattle.script.specs.Parse.{Sound, Takes};
@@ -38,7 +39,7 @@ pub fn parse(buf: &[u8; 65536], lines: Lines, numbers: &mut [u64; 2048]) -> Pars
     ensures { λ r. ⌜ Sound r ⌝ }
 {
     if lines.found != crate::lines::AT_LINE {
-        return bad();
+        return no_call(calls::BAD);
     }
     let start = lines.start;
     let end = lines.end;
@@ -51,35 +52,27 @@ pub fn parse_line(line: &[u8], numbers: &mut [u64; 2048]) -> Parsed
     ensures { λ r. ⌜ Sound r ⌝ }
 {
     if line.len() == 0 {
-        return skip();
+        return no_call(calls::SKIP);
     }
     if line[0] == b'#' {
-        return skip();
+        return no_call(calls::SKIP);
     }
     let end = tokens::token_end(line, 0);
     let code = calls::code_of(&line[0..end]);
     if code == calls::BAD {
-        return bad();
+        return no_call(calls::BAD);
     }
     let tail = tail_of(line, end, numbers);
     checked(code, tail, numbers[0])
 }
 
-fn skip() -> Parsed
+// A line that is no call: one to skip, or a malformed one.
+fn no_call(code: u8) -> Parsed
+    requires { ⌜ code < 2 ⌝ }
     ensures { λ r. ⌜ Sound r ⌝ }
 {
     Parsed {
-        code: calls::SKIP,
-        count: 0,
-        lent: 0,
-    }
-}
-
-fn bad() -> Parsed
-    ensures { λ r. ⌜ Sound r ⌝ }
-{
-    Parsed {
-        code: calls::BAD,
+        code,
         count: 0,
         lent: 0,
     }
@@ -87,18 +80,18 @@ fn bad() -> Parsed
 
 // A call with what stands behind its name, where the two fit.
 fn checked(code: u8, tail: Tail, first: u64) -> Parsed
-    requires { ⌜ (code < 35) × (tail .count ≤ 2048) × (tail .lent ≤ 4096) ⌝ }
+    requires { ⌜ (code < codes) × (tail .count ≤ 2048) × (tail .lent ≤ 4096) ⌝ }
     ensures { λ r. ⌜ Sound r ⌝ }
 {
     if !tail.good {
-        return bad();
+        return no_call(calls::BAD);
     }
     if !takes(code, tail.count) {
-        return bad();
+        return no_call(calls::BAD);
     }
     if code == calls::REPEAT {
         if tail.lends || first == 0 {
-            return bad();
+            return no_call(calls::BAD);
         }
     }
     call(code, tail.count, tail.lent)
@@ -106,7 +99,7 @@ fn checked(code: u8, tail: Tail, first: u64) -> Parsed
 
 // Whether a call takes so many numbers.
 fn takes(code: u8, count: usize) -> bool
-    requires { ⌜ code < 35 ⌝ }
+    requires { ⌜ code < codes ⌝ }
     ensures { λ r. ⌜ (r ≡ true → Takes code count) ⌝ }
 {
     let own = calls::count_of(code);
@@ -118,7 +111,7 @@ fn takes(code: u8, count: usize) -> bool
 
 // A call, lent nothing where it takes no list.
 fn call(code: u8, count: usize, lent: usize) -> Parsed
-    requires { ⌜ (code < 35) × (count ≤ 2048) × (lent ≤ 4096) × Takes code count ⌝ }
+    requires { ⌜ (code < codes) × (count ≤ 2048) × (lent ≤ 4096) × Takes code count ⌝ }
     ensures { λ r. ⌜ Sound r ⌝ }
 {
     if calls::takes_list(code) {

@@ -3,21 +3,29 @@ ghost use mathlib.Core.Path.{_≡_};
 ghost use Prim.Native.Nat.{_+_, _≤_};
 ghost use lib.ListN.{length, drop};
 ghost use Rattle.script.specs.Texts.{sameText};
-ghost use Rattle.script.specs.Grammar.{wordLength};
+ghost use Rattle.script.specs.Grammar.{upTo, wordLength};
+
+// The first place from `from` on where the byte stands, or the text's end.
+pub fn first_of(byte: u8, text: &[u8], from: usize) -> usize
+    requires { ⌜ from ≤ length (now text) ⌝ }
+    ensures { λ r. ⌜ (from ≤ r) × (r ≤ length (now (text .entry))) × (r ≡ from + upTo byte (drop from (now (text .entry)))) ⌝ }
+{
+    let mut i = from;
+    while i < text.len() {
+        if text[i] == byte {
+            return i;
+        }
+        i += 1;
+    }
+    i
+}
 
 // The end of the token that begins at from: the next space, or the line's end.
 pub fn token_end(line: &[u8], from: usize) -> usize
     requires { ⌜ from ≤ length (now line) ⌝ }
     ensures { λ r. ⌜ (from ≤ r) × (r ≤ length (now (line .entry))) × (r ≡ from + wordLength (drop from (now (line .entry)))) ⌝ }
 {
-    let mut i = from;
-    while i < line.len() {
-        if line[i] == b' ' {
-            return i;
-        }
-        i += 1;
-    }
-    i
+    first_of(b' ', line, from)
 }
 
 // Whether two texts are the same.

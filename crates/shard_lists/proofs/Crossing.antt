@@ -2,25 +2,27 @@
 -- Assumes nothing.
 use Prim.Native.Nat.{ℕ, _+_, _≤_, _<_}
 use mathlib.Core.Path.{_≡_, sym, ap, _∙_}
-use mathlib.Core.Bool.{true, false, not}
-use mathlib.Core.List.{List, _∷_, _++_}
+use mathlib.Core.Bool.{true, false}
+use mathlib.Core.List.{List, [], _∷_, _++_, map}
 use native.Mathlib.Omega.{arith}
 use lib.Dec.{eqb}
-use lib.ListN.{take, drop, getD}
+use lib.ListN.{length, take, drop, getD}
 use lib.Seq.{length-take-le, getD-take}
-use Rattle.lists.specs.Lists.{keep, concatMap, include, setOf, total, self, part}
+use Rattle.lists.specs.Lists.{keep, concatMap, includeAll, setOf, total, self, part}
 use Rattle.lists.proofs.Distinct.{every-at}
 use Rattle.lists.proofs.Loops.{rest-cons, rest-end}
 use Rattle.rules.specs.Numbers.{recordKey, owns, shardForRoute}
-use Rattle.rules.specs.Plain as plain
-use Rattle.rules.specs.Plain.{Edge}
+use Rattle.rules.specs.Plain.{Edge, isRemote, shardOf}
 use Rattle.rules.specs.Readings.{claimantsOf}
 use Rattle.entry.specs.declared.Entry.{Entry}
 use Rattle.entry.specs.Entry.{plainEntry, edgesOf, Fits}
+use Rattle.store.specs.declared.departures.Departures.{Departures}
+use Rattle.store.specs.Departures as departures
+use Rattle.store.specs.Departures.{onFile}
 use Rattle.entry.proofs.Edges.{edgeAt, issuing, edges-cons, edges-end}
-use Rattle.shard_lists.specs.Sets.{Set, front, Holds, shardsOver, counterpartsAt}
-use Rattle.lists.proofs.Sets.{keep-both}
-use Rattle.shard_lists.proofs.Gather.{Sofar, put-one, ended}
+use Rattle.shard_lists.specs.Sets.{Set, front, Holds, isOver, shardsOver, departedOver, counterpartsAt}
+use Rattle.lists.proofs.Sets.{keep-both, gathered-once}
+use Rattle.shard_lists.proofs.Gather.{Sofar, ended}
 
 -- the destinations of the edges from local with a key
 abbrev pub claimed : ℕ → ℕ → List Edge → List ℕ
@@ -49,40 +51,37 @@ module _ (e : Entry) (fits : Fits e) where
         let two = keep-both (λ (g : Edge). eqb (g .from) local) (λ (g : Edge). eqb (recordKey (g .id)) r) (edgesOf e) in
         rw two (ended (claimed local r (drop i (edgesOf e))) (ap (claimed local r) (edges-end e fits i h)) q)
 
--- the trie's shards for remote routes, and those whose departure is over one
-unfoldable pub beyond : ℕ → List plain.Departure → ℕ → ℕ → List ℕ → List ℕ
-beyond local ds d anchor routes =
-    concatMap (λ (r : ℕ). shardForRoute d r ∷ shardsOver anchor r ds) (keep (λ r. not (owns local r)) routes)
+-- the remote routes still to come
 
-module _ (e : Entry) (fits : Fits e) (local : ℕ) (ds : List plain.Departure) (d : ℕ) where
-  abbrev pub routesOf : List ℕ
-  routesOf = take (e .«routes_len») (e .routes)
+module _ (a : List ℕ) (n local : ℕ) (room : n ≤ length a) where
+  abbrev pub farFrom : ℕ → List ℕ
+  farFrom i = keep (isRemote local) (drop i (take n a))
 
-  abbrev pub toCome : ℕ → List ℕ
-  toCome i = beyond local ds d (e .anchor .0) (drop i routesOf)
+  pub far-in : (i : ℕ) → i < n → owns local (getD a i 0) ≡ false → farFrom i ≡ getD a i 0 ∷ farFrom (i + 1)
+  far-in i h t = rw (rest-cons 0 a i n h room, t)
 
-  route-cons : (i : ℕ) → i < e .«routes_len» → drop i routesOf ≡ getD (e .routes) i 0 ∷ drop (i + 1) routesOf
-  route-cons i h = rest-cons 0 (e .routes) i (e .«routes_len») h (omega (arith, fits .routesLen, fits .routes))
+  pub far-out : (i : ℕ) → i < n → owns local (getD a i 0) ≡ true → farFrom i ≡ farFrom (i + 1)
+  far-out i h t = rw (rest-cons 0 a i n h room, t)
 
-  pub remote-in : (i : ℕ) → i < e .«routes_len» → owns local (getD (e .routes) i 0) ≡ false →
-      toCome i ≡ shardForRoute d (getD (e .routes) i 0) ∷ (shardsOver (e .anchor .0) (getD (e .routes) i 0) ds ++ toCome (i + 1))
-  unfolding beyond
-  remote-in i h t = rw (route-cons i h, t)
+-- the trie's shards of routes still to come
+pub trie-next : (d : ℕ) (a : List ℕ) (i n : ℕ) → i < n → n ≤ length a →
+    map (shardForRoute d) (drop i (take n a)) ≡ shardForRoute d (getD a i 0) ∷ map (shardForRoute d) (drop (i + 1) (take n a))
+trie-next d a i n h k = rw (rest-cons 0 a i n h k)
 
-  -- the trie's shard put in: those whose departure is over the route are next
-  pub remote-one : {target : List ℕ} {most : ℕ} {s : Set} (i m t : ℕ) (u : Set) → i < e .«routes_len» → owns local (getD (e .routes) i 0) ≡ false →
-      t ≡ shardForRoute d (getD (e .routes) i 0) → most + 1 ≤ m → Sofar target (toCome i) most s → Holds (include self t (front s)) u →
-      Sofar target (shardsOver (e .anchor .0) (getD (e .routes) i 0) ds ++ toCome (i + 1)) m u
-  remote-one i m t u h o q b f p =
-      let rest = shardsOver (e .anchor .0) (getD (e .routes) i 0) ds ++ toCome (i + 1) in
-      put-one t (toCome i) rest m u (remote-in i h o ∙ ap (λ x. x ∷ rest) (sym q)) b f p
+pub trie-end : (d : ℕ) (a : List ℕ) (i n : ℕ) → n ≤ i → n ≤ length a → map (shardForRoute d) (drop i (take n a)) ≡ []
+trie-end d a i n h k = rw (rest-end a i n h k)
 
-  pub own-out : (i : ℕ) → i < e .«routes_len» → owns local (getD (e .routes) i 0) ≡ true → toCome i ≡ toCome (i + 1)
-  unfolding beyond
-  own-out i h t = rw (route-cons i h, t)
-
-  pub beyond-all : {most : ℕ} {s : Set} (i : ℕ) → e .«routes_len» ≤ i → Sofar (setOf (toCome 0)) (toCome i) most s →
-      Holds (counterpartsAt local ds d (plainEntry e)) s
-  unfolding plainEntry beyond
-  beyond-all {most} {s} i h q =
-      ended (toCome i) (ap (beyond local ds d (e .anchor .0)) (rest-end (e .routes) i (e .«routes_len») h (omega (arith, fits .routesLen, fits .routes)))) q
+-- the departed shards, and the trie's put in among them, are the counterparts
+pub counterparts-once : (e : Entry) (local : ℕ) (x : Departures) (d : ℕ) (far : List ℕ) (s t : Set) → departures.Rising x →
+    far ≡ keep (isRemote local) (take (e .«routes_len») (e .routes)) → Holds (departedOver (e .anchor .0) far (onFile x)) s →
+    Holds (includeAll self (map (shardForRoute d) far) (front s)) t → Holds (counterpartsAt local (onFile x) d (plainEntry e)) t
+unfolding plainEntry
+counterparts-once e local x d far s t a q h k =
+    record {
+      sound = k .sound;
+      holds =
+          k .holds
+          ∙ ap (includeAll self (map (shardForRoute d) far)) (h .holds)
+          ∙ sym (gathered-once shardOf (shardForRoute d) (isOver (e .anchor .0)) (onFile x) a far)
+          ∙ ap (λ l. setOf (concatMap (λ (r : ℕ). shardForRoute d r ∷ shardsOver (e .anchor .0) r (onFile x)) l)) q;
+    }

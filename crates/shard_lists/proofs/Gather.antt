@@ -1,12 +1,13 @@
 -- Numbers gathered in a set. A loop that gathers holds a set and what is still to come: put in, that makes the target.
 -- Assumes nothing.
-use Prim.Native.Nat.{ℕ, _+_, _≤_}
+use Prim.Native.Nat.{ℕ, _+_, _≤_, _<_}
 use mathlib.Core.Path.{_≡_, refl, sym, ap, _∙_}
 use mathlib.Core.Bool.{Bool, true, false}
-use mathlib.Core.List.{List, [], _∷_, _++_}
+use mathlib.Core.List.{List, [], _∷_, _++_, append-nil}
+use native.Mathlib.Numerals.{add-one}
 use native.Mathlib.Omega.{arith}
-use lib.ListN.{length, drop}
-use lib.Seq.{length-take-le}
+use lib.ListN.{length, take, drop, set, length-set}
+use lib.Seq.{length-take-le, take-suc-set, append-snoc}
 use Rattle.lists.specs.Lists.{has, include, includeAll, self, setOf}
 use Rattle.lists.specs.Arrays.{rank, leads}
 use Rattle.lists.proofs.Order.{ascending-include, include-known, length-includeAll}
@@ -42,7 +43,7 @@ pub record Sofar (target rest : List ℕ) (most : ℕ) (s : Set) : Type 0 where
   pub few : s .len ≤ most
   pub same : includeAll self rest (front s) ≡ target
 
-pub none-yet : (l : List ℕ) (m : ℕ) (items : List ℕ) → length items ≡ 264 → Sofar (setOf l) l m (made items 0)
+pub none-yet : (l : List ℕ) (m : ℕ) (items : List ℕ) → length items ≡ 40 → Sofar (setOf l) l m (made items 0)
 none-yet l m items h = record { sound = record { sized = record { room = omega arith; size = h }; rising = tt }; few = omega arith; same = refl }
 
 pub begun : (l : List ℕ) (m : ℕ) (s : Set) → s .len ≤ m → Sound s → Sofar (includeAll self l (front s)) l m s
@@ -72,3 +73,28 @@ put-all {target} {most} {s} a old new m r e b h p =
 pub put-one : {target : List ℕ} {most : ℕ} {s : Set} (x : ℕ) (old new : List ℕ) (m : ℕ) (r : Set) → old ≡ x ∷ new → most + 1 ≤ m →
     Sofar target old most s → Holds (include self x (front s)) r → Sofar target new m r
 put-one x old new m r e b h p = put-all (x ∷ []) old new m r e (omega arith) h p
+
+-- A loop that writes one behind the other: what stands in front, and what is still to come, make the whole.
+
+pub record Written (room : ℕ) (whole rest : List ℕ) (s : Set) : Type 0 where
+  pub size : length (s .items) ≡ room
+  pub same : front s ++ rest ≡ whole
+
+pub unwritten : (room : ℕ) (whole a : List ℕ) → length a ≡ room → Written room whole whole (made a 0)
+unwritten room whole a h = record { size = h; same = refl }
+
+pub left-out : {room : ℕ} {whole : List ℕ} {s : Set} (old new : List ℕ) → old ≡ new → Written room whole old s → Written room whole new s
+left-out {room} {whole} {s} old new e h = record { size = h .size; same = ap (λ l. front s ++ l) (sym e) ∙ h .same }
+
+pub put-behind : {room : ℕ} {whole : List ℕ} (a : List ℕ) (m x : ℕ) (old new : List ℕ) → old ≡ x ∷ new → m < room → Written room whole old (made a m) →
+    Written room whole new (made (set a m x) (m + 1))
+put-behind {room} {whole} a m x old new e b h =
+    record {
+      size = length-set a m x ∙ h .size;
+      same =
+          rw (add-one m, take-suc-set a m x (omega (arith, h .size)), append-snoc (take m a) x new)
+          (ap (λ l. take m a ++ l) (sym e) ∙ h .same);
+    }
+
+pub written-out : {room : ℕ} {whole : List ℕ} {s : Set} (rest : List ℕ) → rest ≡ [] → Written room whole rest s → front s ≡ whole
+written-out {room} {whole} {s} rest e h = sym (append-nil (front s)) ∙ ap (λ l. front s ++ l) (sym e) ∙ h .same

@@ -21,7 +21,7 @@ use Rattle.store.specs.Departures.{onFile}
 use Rattle.store.specs.Roster.{keysOf, is}
 use Rattle.ledger.specs.declared.Ledger.{Ledger}
 use Rattle.ledger.specs.Contents.{contents, Held}
-use Rattle.ledger.proofs.Lift.{found-at, not-found}
+use Rattle.ledger.proofs.Places.{found-at, not-found}
 use Rattle.readings.specs.declared.Answer.{Answer}
 use Rattle.readings.specs.Reads.{Reads}
 use Rattle.readings.specs.Answers.{Tells, Refuses, Lists}

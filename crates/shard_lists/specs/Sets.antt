@@ -5,7 +5,7 @@ use mathlib.Core.Bool.{Bool, _&&_}
 use mathlib.Core.List.{List, _∷_, map}
 use lib.Dec.{ltb}
 use lib.ListN.{length, take}
-use Rattle.lists.specs.Lists.{keep, concatMap, Every, Ascending, self, setOf}
+use Rattle.lists.specs.Lists.{keep, any, concatMap, Every, Ascending, self, setOf}
 use Rattle.lists.specs.Arrays.{insertAt}
 use Rattle.rules.specs.Numbers.{owns, shardForRoute}
 use Rattle.rules.specs.Plain as plain
@@ -31,8 +31,8 @@ abbrev pub under : ℕ → ℕ → Bool
 under x y = ltb y x
 
 pub record Sized (s : Set) : Type 0 where
-  pub room : s .len ≤ 264
-  pub size : length (s .items) ≡ 264
+  pub room : s .len ≤ 40
+  pub size : length (s .items) ≡ 40
 
 pub record Sound (s : Set) : Type 0 where
   pub sized : Sized s
@@ -48,20 +48,37 @@ pub record Inserted (s₀ : Set) (k x : ℕ) (s : Set) : Type 0 where
   pub sized : Sized s
   pub holds : front s ≡ insertAt k x (front s₀)
 
+-- the first n of an array of eight are just these
+pub record Eight (l a : List ℕ) (n : ℕ) : Type 0 where
+  pub few : n ≤ 8
+  pub size : length a ≡ 8
+  pub holds : take n a ≡ l
+
 -- departures on file as a ledger in use has them
 pub record Filed (x : Departures) : Type 0 where
   pub sound : departures.Sound x
+  pub rising : departures.Rising x
   pub good : Every GoodDeparture (onFile x)
 
--- what is gathered: departed shards, over a route of an entry with an anchor; those without a stamp; an entry's counterparts
+-- what is gathered: departed shards, over a route or over one of some routes of an entry with an anchor; those without a stamp; an entry's
+-- counterparts
 abbrev pub isOver : ℕ → ℕ → plain.Departure → Bool
 isOver anchor route d = owns (d .shard) route && ltb anchor (d .cut)
 
 abbrev pub shardsOver : ℕ → ℕ → List plain.Departure → List ℕ
 shardsOver anchor route ds = map shardOf (keep (isOver anchor route) ds)
 
+abbrev pub isOverSome : ℕ → List ℕ → plain.Departure → Bool
+isOverSome anchor routes d = any (λ r. isOver anchor r d) routes
+
+abbrev pub departedOver : ℕ → List ℕ → List plain.Departure → List ℕ
+departedOver anchor routes ds = map shardOf (keep (isOverSome anchor routes) ds)
+
+abbrev pub lacksStamp : plain.Departure → Bool
+lacksStamp d = isUnstamped (d .stamp)
+
 abbrev pub unstampedOn : List plain.Departure → List ℕ
-unstampedOn ds = map shardOf (keep (λ (d : plain.Departure). isUnstamped (d .stamp)) ds)
+unstampedOn ds = map shardOf (keep lacksStamp ds)
 
 abbrev pub counterpartsAt : ℕ → List plain.Departure → ℕ → plain.Entry → List ℕ
 counterpartsAt local ds d e =

@@ -3,27 +3,30 @@
 pub mod set;
 
 ghost use mathlib.Core.Path.{_≡_};
-ghost use mathlib.Core.Bool.{true, _&&_};
-ghost use Prim.Native.Nat.{_+_, _≤_};
-ghost use lib.Dec.{ltb, leb};
-ghost use lib.ListN.{length};
-ghost use Rattle.lists.specs.Lists.{includeAll, self};
-ghost use Rattle.rules.specs.Numbers.{isShard, owns};
+ghost use mathlib.Core.Bool.{true};
+ghost use mathlib.Core.List.{map};
+ghost use Prim.Native.Nat.{_≤_};
+ghost use lib.Dec.{leb};
+ghost use lib.ListN.{length, take};
+ghost use Rattle.lists.specs.Lists.{keep, any, includeAll, self};
+ghost use Rattle.rules.specs.Numbers.{isShard, owns, shardForRoute};
+ghost use Rattle.rules.specs.Plain.{isRemote};
 ghost use Rattle.rules.specs.Readings as rules;
 ghost use Rattle.rules.specs.Readings.{read, claimantsOf};
 ghost use Rattle.entry.specs.Entry.{plainEntry, Fits};
 ghost use Rattle.store.specs.Departures as departures;
-ghost use Rattle.store.specs.Departures.{onFile};
+ghost use Rattle.store.specs.Departures.{onFile, plainDeparture};
 ghost use Rattle.ledger.specs.Contents.{contents, Held};
 ghost use Rattle.readings.specs.Reads.{Reads};
-ghost use Rattle.shard_lists.specs.Sets.{made, front, Sound, Holds, Filed, shardsOver, unstampedOn, counterpartsAt};
+ghost use Rattle.shard_lists.specs.Sets.{made, front, Sound, Holds, Eight, Filed, isOverSome, departedOver, unstampedOn, counterpartsAt};
+ghost use Rattle.types.specs.Transactions.{numberOf};
 use entry::Entry;
 use ledger::Ledger;
 use lists::Found;
 use readings::Answer;
+use readings::reply::answer;
 use readings::reply::list;
 use readings::reply::refusal;
-use readings::reply::answer;
 use store::departures::Departure;
 use store::departures::Departures;
 use types::RecordKey;
@@ -31,9 +34,9 @@ use types::Shard;
 use types::Time;
 use types::Transaction;
 
-// The shards whose departures have no stamp.
-fn unstamped(filed: Departures, items: &mut [u64; 264]) -> usize
-    requires { ⌜ departures.Sound filed × departures.Rising filed × (length (now items) ≡ 264) ⌝ }
+// The shards whose departures have no stamp. They rise as the departures do, so that each is put behind the last.
+fn unstamped(filed: Departures, items: &mut [u64; 40]) -> usize
+    requires { ⌜ departures.Sound filed × departures.Rising filed × (length (now items) ≡ 40) ⌝ }
     ensures { λ r. ⌜ Holds (unstampedOn (onFile filed)) (made (now (items .exit)) r) ⌝ }
 {
     let n = filed.len;
@@ -44,7 +47,8 @@ fn unstamped(filed: Departures, items: &mut [u64; 264]) -> usize
         if d.stamped {
             i += 1;
         } else {
-            m = set::include(items, m, d.shard);
+            items[m] = d.shard.0;
+            m += 1;
             i += 1;
         }
     }
@@ -56,14 +60,14 @@ pub fn unstamped_departures(ledger: Ledger, lent: &mut [u64]) -> Answer
     ensures { λ r. ⌜ Reads (read (rules.listUnstamped (length (now (lent .entry)))) (contents ledger)) (now (lent .entry)) (now (lent .exit)) r ⌝ }
 {
     let on_file = ledger.departures;
-    let mut items = [0u64; 264];
+    let mut items = [0u64; 40];
     let n = unstamped(on_file, &mut items);
     list(&items, n, n, lent)
 }
 
 pub fn reach(ledger: Ledger, tx: Transaction, lent: &mut [u64]) -> Answer
     requires { ⌜ Held ledger ⌝ }
-    ensures { λ r. ⌜ Reads (read (rules.reach (tx .0) (length (now (lent .entry)))) (contents ledger)) (now (lent .entry)) (now (lent .exit)) r ⌝ }
+    ensures { λ r. ⌜ Reads (read (rules.reach (numberOf tx) (length (now (lent .entry)))) (contents ledger)) (now (lent .entry)) (now (lent .exit)) r ⌝ }
 {
     let roster = ledger.roster;
     let Found::At(k) = roster.find(tx) else {
@@ -77,8 +81,8 @@ pub fn reach(ledger: Ledger, tx: Transaction, lent: &mut [u64]) -> Answer
 }
 
 // The destinations of the entry's edges from local with this key.
-fn destinations(e: Entry, local: Shard, r: RecordKey, items: &mut [u64; 264]) -> usize
-    requires { ⌜ Fits e × (length (now items) ≡ 264) ⌝ }
+fn destinations(e: Entry, local: Shard, r: RecordKey, items: &mut [u64; 40]) -> usize
+    requires { ⌜ Fits e × (length (now items) ≡ 40) ⌝ }
     ensures { λ m. ⌜ Holds (claimantsOf (local .0) (r .0) (plainEntry e)) (made (now (items .exit)) m) ⌝ }
 {
     let n = e.edges_len as usize;
@@ -104,7 +108,7 @@ fn destinations(e: Entry, local: Shard, r: RecordKey, items: &mut [u64; 264]) ->
 
 pub fn claimants(ledger: Ledger, tx: Transaction, r: RecordKey, lent: &mut [u64]) -> Answer
     requires { ⌜ Held ledger ⌝ }
-    ensures { λ x. ⌜ Reads (read (rules.listClaimants (tx .0) (r .0) (length (now (lent .entry)))) (contents ledger)) (now (lent .entry)) (now (lent .exit)) x ⌝ }
+    ensures { λ x. ⌜ Reads (read (rules.listClaimants (numberOf tx) (r .0) (length (now (lent .entry)))) (contents ledger)) (now (lent .entry)) (now (lent .exit)) x ⌝ }
 {
     let roster = ledger.roster;
     let Found::At(k) = roster.find(tx) else {
@@ -112,72 +116,112 @@ pub fn claimants(ledger: Ledger, tx: Transaction, r: RecordKey, lent: &mut [u64]
     };
     let slot = roster.slots[k];
     let e = ledger.entries[slot];
-    let mut items = [0u64; 264];
+    let mut items = [0u64; 40];
     let n = destinations(e, ledger.local, r, &mut items);
     list(&items, n, n, lent)
 }
 
-// Whether a departure is over a route of an entry with this anchor.
-fn is_over(d: Departure, anchor: Time, route: u64) -> bool
-    requires { ⌜ isShard (d .shard .0) ≡ true ⌝ }
-    ensures { λ r. ⌜ r ≡ owns (d .shard .0) route && ltb (anchor .0) (d .cut .0) ⌝ }
+// The routes that local does not own, put into the front of a lent array; how many there are.
+fn remote(routes: [u64; 8], n: usize, local: Shard, far: &mut [u64; 8]) -> usize
+    requires { ⌜ (n ≤ 8) × (isShard (local .0) ≡ true) × (length (now far) ≡ 8) ⌝ }
+    ensures { λ m. ⌜ Eight (keep (isRemote (local .0)) (take n routes)) (now (far .exit)) m ⌝ }
 {
-    let shard = d.shard;
-    shard.owns(route) && anchor.0 < d.cut.0
-}
-
-// The set of len with the shards whose departure is over a route in it.
-fn with_departed(
-    items: &mut [u64; 264],
-    len: usize,
-    on_file: Departures,
-    anchor: Time,
-    route: u64,
-) -> usize
-    requires { ⌜ Sound (made (now items) len) × (len + 32 ≤ 264) × Filed «on_file» ⌝ }
-    ensures { λ r. ⌜ Holds (includeAll self (shardsOver (anchor .0) route (onFile «on_file»)) (front (made (now (items .entry)) len))) (made (now (items .exit)) r) ⌝ }
-{
-    let n = on_file.len;
-    let mut m = len;
-    let mut i: usize = 0;
-    while i < n {
-        let d = on_file.items[i];
-        if is_over(d, anchor, route) {
-            m = set::include(items, m, d.shard);
-            i += 1;
-        } else {
-            i += 1;
-        }
-    }
-    m
-}
-
-// For each remote route the trie's shard, and those whose departure is over it.
-fn beyond(e: Entry, on_file: Departures, local: Shard, d: u32, items: &mut [u64; 264]) -> usize
-    requires { ⌜ Fits e × Filed «on_file» × (isShard (local .0) ≡ true) × (leb d 32 ≡ true) × (length (now items) ≡ 264) ⌝ }
-    ensures { λ r. ⌜ Holds (counterpartsAt (local .0) (onFile «on_file») d (plainEntry e)) (made (now (items .exit)) r) ⌝ }
-{
-    let n = e.routes_len as usize;
-    let anchor = e.anchor;
     let mut m: usize = 0;
     let mut i: usize = 0;
     while i < n {
-        let route = e.routes[i];
+        let route = routes[i];
         if local.owns(route) {
             i += 1;
         } else {
-            let t = types::shard_for_route(d, route);
-            let k = set::include(items, m, t);
-            m = with_departed(items, k, on_file, anchor, route);
+            far[m] = route;
+            m += 1;
             i += 1;
         }
     }
     m
+}
+
+// Whether the shard owns one of the first n routes.
+fn owns_some(shard: Shard, far: &[u64; 8], n: usize) -> bool
+    requires { ⌜ (isShard (shard .0) ≡ true) × (n ≤ 8) × (length (now far) ≡ 8) ⌝ }
+    ensures { λ r. ⌜ r ≡ any (owns (shard .0)) (take n (now (far .entry))) ⌝ }
+{
+    let mut i: usize = 0;
+    while i < n {
+        if shard.owns(far[i]) {
+            return true;
+        }
+        i += 1;
+    }
+    false
+}
+
+// Whether a departure is over one of the first n routes of an entry with this anchor. The cut is the same for all of them.
+fn is_over(d: Departure, anchor: Time, far: &[u64; 8], n: usize) -> bool
+    requires { ⌜ (isShard (d .shard .0) ≡ true) × (n ≤ 8) × (length (now far) ≡ 8) ⌝ }
+    ensures { λ r. ⌜ r ≡ isOverSome (anchor .0) (take n (now (far .entry))) (plainDeparture d) ⌝ }
+{
+    anchor.0 < d.cut.0 && owns_some(d.shard, far, n)
+}
+
+// The shards whose departure is over one of the routes. They rise as the departures do, so that each is put behind the last.
+fn departed(
+    on_file: Departures,
+    anchor: Time,
+    far: &[u64; 8],
+    n: usize,
+    items: &mut [u64; 40],
+) -> usize
+    requires { ⌜ Filed «on_file» × (n ≤ 8) × (length (now far) ≡ 8) × (length (now items) ≡ 40) ⌝ }
+    ensures { λ r. ⌜ Holds (departedOver (anchor .0) (take n (now (far .entry))) (onFile «on_file»)) (made (now (items .exit)) r) × (r ≤ 32) ⌝ }
+{
+    let len = on_file.len;
+    let mut m: usize = 0;
+    let mut i: usize = 0;
+    while i < len {
+        let d = on_file.items[i];
+        if is_over(d, anchor, far, n) {
+            items[m] = d.shard.0;
+            m += 1;
+            i += 1;
+        } else {
+            i += 1;
+        }
+    }
+    m
+}
+
+// The set of len with the trie's shards of the first n routes in it.
+fn with_trie(items: &mut [u64; 40], len: usize, far: &[u64; 8], n: usize, d: u32) -> usize
+    requires { ⌜ Sound (made (now items) len) × (len ≤ 32) × (n ≤ 8) × (length (now far) ≡ 8) × (leb d 32 ≡ true) ⌝ }
+    ensures { λ r. ⌜ Holds (includeAll self (map (shardForRoute d) (take n (now (far .entry)))) (front (made (now (items .entry)) len))) (made (now (items .exit)) r) ⌝ }
+{
+    let mut m = len;
+    let mut i: usize = 0;
+    while i < n {
+        let t = types::shard_for_route(d, far[i]);
+        m = set::include(items, m, t);
+        i += 1;
+    }
+    m
+}
+
+// For the remote routes the trie's shards, and those whose departure is over one. Departures are gone through once: each is held against
+// the routes, not each route against them.
+fn beyond(e: Entry, on_file: Departures, local: Shard, d: u32, items: &mut [u64; 40]) -> usize
+    requires { ⌜ Fits e × Filed «on_file» × (isShard (local .0) ≡ true) × (leb d 32 ≡ true) × (length (now items) ≡ 40) ⌝ }
+    ensures { λ r. ⌜ Holds (counterpartsAt (local .0) (onFile «on_file») d (plainEntry e)) (made (now (items .exit)) r) ⌝ }
+{
+    let routes = e.routes;
+    let mut far = [0u64; 8];
+    let n = remote(routes, e.routes_len as usize, local, &mut far);
+    let m = departed(on_file, e.anchor, &far, n, items);
+    with_trie(items, m, &far, n, d)
 }
 
 pub fn counterparts(ledger: Ledger, tx: Transaction, depth: u64, lent: &mut [u64]) -> Answer
     requires { ⌜ Held ledger ⌝ }
-    ensures { λ r. ⌜ Reads (read (rules.listCounterparts (tx .0) depth (length (now (lent .entry)))) (contents ledger)) (now (lent .entry)) (now (lent .exit)) r ⌝ }
+    ensures { λ r. ⌜ Reads (read (rules.listCounterparts (numberOf tx) depth (length (now (lent .entry)))) (contents ledger)) (now (lent .entry)) (now (lent .exit)) r ⌝ }
 {
     if depth > 32 {
         return refusal(5);
@@ -188,7 +232,7 @@ pub fn counterparts(ledger: Ledger, tx: Transaction, depth: u64, lent: &mut [u64
     };
     let slot = roster.slots[k];
     let e = ledger.entries[slot];
-    let mut items = [0u64; 264];
+    let mut items = [0u64; 40];
     let n = beyond(e, ledger.departures, ledger.local, depth as u32, &mut items);
     list(&items, n, n, lent)
 }

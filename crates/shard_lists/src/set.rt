@@ -1,5 +1,6 @@
 // A set of shards, rising, in the first n of a lent array: what claimants, counterparts and departures are gathered in before they are
-// written out. The array is lent, so that a shard is put in without a copy of it. Eight routes give at most 33 shards each.
+// written out. The array is lent, so that a shard is put in without a copy of it. At most 32 departures and eight shards of a trie come
+// together.
 ghost use mathlib.Core.Path.{_≡_};
 ghost use Prim.Native.Nat.{_+_, _≤_, _<_};
 ghost use lib.ListN.{take, drop};
@@ -9,7 +10,7 @@ ghost use Rattle.shard_lists.specs.Sets.{made, front, under, Sized, Soun
 use types::Shard;
 
 // How many, from the front, are lower than x.
-fn rank(items: &[u64; 264], n: usize, x: Shard) -> usize
+fn rank(items: &[u64; 40], n: usize, x: Shard) -> usize
     requires { ⌜ Sized (made (now items) n) ⌝ }
     ensures { λ r. ⌜ r ≡ rankOf (under (x .0)) (take n (now (items .entry))) ⌝ }
 {
@@ -24,7 +25,7 @@ fn rank(items: &[u64; 264], n: usize, x: Shard) -> usize
 }
 
 // Whether x stands at k.
-fn stands(items: &[u64; 264], n: usize, k: usize, x: Shard) -> bool
+fn stands(items: &[u64; 40], n: usize, k: usize, x: Shard) -> bool
     requires { ⌜ Sized (made (now items) n) ⌝ }
     ensures { λ r. ⌜ r ≡ leads itself (x .0) (drop k (take n (now (items .entry)))) ⌝ }
 {
@@ -32,8 +33,8 @@ fn stands(items: &[u64; 264], n: usize, k: usize, x: Shard) -> bool
 }
 
 // The shards with x put in at k: those from k on move up by one, from the end.
-fn insert_at(items: &mut [u64; 264], n: usize, k: usize, x: Shard)
-    requires { ⌜ Sized (made (now items) n) × (k ≤ n) × (n < 264) ⌝ }
+fn insert_at(items: &mut [u64; 40], n: usize, k: usize, x: Shard)
+    requires { ⌜ Sized (made (now items) n) × (k ≤ n) × (n < 40) ⌝ }
     ensures { λ r. ⌜ Inserted (made (now (items .entry)) n) k (x .0) (made (now (items .exit)) (n + 1)) ⌝ }
 {
     let mut i = n;
@@ -46,8 +47,8 @@ fn insert_at(items: &mut [u64; 264], n: usize, k: usize, x: Shard)
 }
 
 // The set with x in it: how many it has then. Where x stands it stands at its rank.
-pub fn include(items: &mut [u64; 264], n: usize, x: Shard) -> usize
-    requires { ⌜ Sound (made (now items) n) × (n < 264) ⌝ }
+pub fn include(items: &mut [u64; 40], n: usize, x: Shard) -> usize
+    requires { ⌜ Sound (made (now items) n) × (n < 40) ⌝ }
     ensures { λ r. ⌜ Holds (include itself (x .0) (front (made (now (items .entry)) n))) (made (now (items .exit)) r) ⌝ }
 {
     let k = rank(items, n, x);
@@ -60,13 +61,13 @@ pub fn include(items: &mut [u64; 264], n: usize, x: Shard) -> usize
 
 // The set of len with n shards more in it, from a place of an array on.
 pub fn include_part(
-    items: &mut [u64; 264],
+    items: &mut [u64; 40],
     len: usize,
     to: [u64; 32],
     from: usize,
     n: usize,
 ) -> usize
-    requires { ⌜ Sound (made (now items) len) × (from + n ≤ 32) × (len + n ≤ 264) ⌝ }
+    requires { ⌜ Sound (made (now items) len) × (from + n ≤ 32) × (len + n ≤ 40) ⌝ }
     ensures { λ r. ⌜ Holds (includeAll itself (part from n to) (front (made (now (items .entry)) len))) (made (now (items .exit)) r) ⌝ }
 {
     let mut m = len;

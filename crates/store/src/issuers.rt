@@ -7,6 +7,7 @@ ghost use Rattle.lists.specs.Lists.{keep, keepBy, include};
 ghost use Rattle.lists.specs.Arrays.{insertAt, rank};
 ghost use Rattle.rules.specs.Index.{pairKey, names};
 ghost use Rattle.store.specs.Issuers.{Sound, Rising, Holds, pairsIn, pair, isPair, isNot, roomFor, leadsPair, isBefore, Worded, made};
+ghost use Rattle.types.specs.Transactions.{numberOf};
 use types::RecordKey;
 use types::Transaction;
 
@@ -18,7 +19,7 @@ pub struct Issuers {
 
 // Whether the pair (a, b) stands before (r, t): by record, then by transaction.
 fn leads(a: RecordKey, b: Transaction, r: RecordKey, t: Transaction) -> bool
-    ensures { λ x. ⌜ x ≡ leadsPair (a .0) (b .0) (r .0) (t .0) ⌝ }
+    ensures { λ x. ⌜ x ≡ leadsPair (a .0) (numberOf b) (r .0) (numberOf t) ⌝ }
 {
     if a.0 < r.0 {
         return true;
@@ -31,7 +32,7 @@ fn leads(a: RecordKey, b: Transaction, r: RecordKey, t: Transaction) -> bool
 
 // Whether the pair (a, b) is (r, t).
 fn is_pair(a: RecordKey, b: Transaction, r: RecordKey, t: Transaction) -> bool
-    ensures { λ x. ⌜ x ≡ isPair (r .0) (t .0) (pair (a .0) (b .0)) ⌝ }
+    ensures { λ x. ⌜ x ≡ isPair (r .0) (numberOf t) (pair (a .0) (numberOf b)) ⌝ }
 {
     if a.0 == r.0 {
         return b.0 == t.0;
@@ -48,7 +49,7 @@ fn rank(
     t: Transaction,
 ) -> usize
     requires { ⌜ Sound (made (now records) (now transactions) n) × Rising (made (now records) (now transactions) n) × Worded (made (now records) (now transactions) n) ⌝ }
-    ensures { λ x. ⌜ x ≡ rank (isBefore (r .0) (t .0)) (pairsIn (made (now (records .entry)) (now (transactions .entry)) n)) ⌝ }
+    ensures { λ x. ⌜ x ≡ rank (isBefore (r .0) (numberOf t)) (pairsIn (made (now (records .entry)) (now (transactions .entry)) n)) ⌝ }
 {
     let mut low: usize = 0;
     let mut high = n;
@@ -77,8 +78,8 @@ fn stands_at(
     r: RecordKey,
     t: Transaction,
 ) -> bool
-    requires { ⌜ Sound (made (now records) (now transactions) n) × Rising (made (now records) (now transactions) n) × Worded (made (now records) (now transactions) n) × (k ≡ rank (isBefore (r .0) (t .0)) (pairsIn (made (now records) (now transactions) n))) ⌝ }
-    ensures { λ x. ⌜ x ≡ names (pairsIn (made (now (records .entry)) (now (transactions .entry)) n)) (r .0) (t .0) ⌝ }
+    requires { ⌜ Sound (made (now records) (now transactions) n) × Rising (made (now records) (now transactions) n) × Worded (made (now records) (now transactions) n) × (k ≡ rank (isBefore (r .0) (numberOf t)) (pairsIn (made (now records) (now transactions) n))) ⌝ }
+    ensures { λ x. ⌜ x ≡ names (pairsIn (made (now (records .entry)) (now (transactions .entry)) n)) (r .0) (numberOf t) ⌝ }
 {
     if k < n {
         return is_pair(RecordKey(records[k]), Transaction(transactions[k]), r, t);
@@ -96,7 +97,7 @@ fn insert_at(
     t: Transaction,
 )
     requires { ⌜ Sound (made (now records) (now transactions) n) × (k ≤ n) × (n < 384) ⌝ }
-    ensures { λ x. ⌜ Holds (insertAt k (pair (r .0) (t .0)) (pairsIn (made (now (records .entry)) (now (transactions .entry)) n))) (made (now (records .exit)) (now (transactions .exit)) (n + 1)) ⌝ }
+    ensures { λ x. ⌜ Holds (insertAt k (pair (r .0) (numberOf t)) (pairsIn (made (now (records .entry)) (now (transactions .entry)) n))) (made (now (records .exit)) (now (transactions .exit)) (n + 1)) ⌝ }
 {
     let mut i = n;
     while k < i {
@@ -118,8 +119,8 @@ pub fn name(
     r: RecordKey,
     t: Transaction,
 ) -> usize
-    requires { ⌜ Sound (made (now records) (now transactions) n) × Rising (made (now records) (now transactions) n) × Worded (made (now records) (now transactions) n) × roomFor (made (now records) (now transactions) n) (r .0) (t .0) ⌝ }
-    ensures { λ x. ⌜ Holds (include pairKey (pair (r .0) (t .0)) (pairsIn (made (now (records .entry)) (now (transactions .entry)) n))) (made (now (records .exit)) (now (transactions .exit)) x) × Worded (made (now (records .exit)) (now (transactions .exit)) x) ⌝ }
+    requires { ⌜ Sound (made (now records) (now transactions) n) × Rising (made (now records) (now transactions) n) × Worded (made (now records) (now transactions) n) × roomFor (made (now records) (now transactions) n) (r .0) (numberOf t) ⌝ }
+    ensures { λ x. ⌜ Holds (include pairKey (pair (r .0) (numberOf t)) (pairsIn (made (now (records .entry)) (now (transactions .entry)) n))) (made (now (records .exit)) (now (transactions .exit)) x) × Worded (made (now (records .exit)) (now (transactions .exit)) x) ⌝ }
 {
     let k = rank(records, transactions, n, r, t);
     if stands_at(records, transactions, n, k, r, t) {
@@ -143,7 +144,7 @@ impl Issuers {
     // Whether the transaction is named under the record.
     pub fn names(self, r: RecordKey, t: Transaction) -> bool
         requires { ⌜ Sound self × Rising self ⌝ }
-        ensures { λ x. ⌜ x ≡ names (pairsIn self) (r .0) (t .0) ⌝ }
+        ensures { λ x. ⌜ x ≡ names (pairsIn self) (r .0) (numberOf t) ⌝ }
     {
         let records = self.records;
         let transactions = self.transactions;
@@ -178,7 +179,7 @@ impl Issuers {
     // Without the pairs of a transaction.
     pub fn without(self, t: Transaction) -> Issuers
         requires { ⌜ Sound self ⌝ }
-        ensures { λ x. ⌜ Holds (keep (isNot (t .0)) (pairsIn self)) x ⌝ }
+        ensures { λ x. ⌜ Holds (keep (isNot (numberOf t)) (pairsIn self)) x ⌝ }
     {
         let n = self.len;
         let mut stay = [false; 384];

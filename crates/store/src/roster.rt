@@ -5,6 +5,7 @@ ghost use Prim.Native.Nat.{_≤_, _<_};
 ghost use lib.ListN.{take};
 ghost use Rattle.lists.specs.Arrays.{place, rank};
 ghost use Rattle.store.specs.Roster.{Sound, Fresh, Inserted, Removed, Retained, keysOf, is, below};
+ghost use Rattle.types.specs.Transactions.{numberOf};
 use lists::Found;
 use types::Transaction;
 
@@ -79,7 +80,7 @@ impl Roster {
     // Where the transaction stands.
     pub fn find(self, tx: Transaction) -> Found
         requires { ⌜ Sound self ⌝ }
-        ensures { λ r. ⌜ r ≡ place (is (tx .0)) 0 (keysOf self) ⌝ }
+        ensures { λ r. ⌜ r ≡ place (is (numberOf tx)) 0 (keysOf self) ⌝ }
     {
         let n = self.len;
         let mut i: usize = 0;
@@ -95,7 +96,7 @@ impl Roster {
     // How many stand before the transaction: where it is to be put in.
     pub fn rank(self, tx: Transaction) -> usize
         requires { ⌜ Sound self ⌝ }
-        ensures { λ r. ⌜ r ≡ rank (below (tx .0)) (keysOf self) ⌝ }
+        ensures { λ r. ⌜ r ≡ rank (below (numberOf tx)) (keysOf self) ⌝ }
     {
         let n = self.len;
         let mut i: usize = 0;
@@ -111,7 +112,7 @@ impl Roster {
     // The transaction put in at a place, with the first slot that is not in use.
     pub fn insert_at(self, k: usize, tx: Transaction) -> Roster
         requires { ⌜ Sound self × (k ≤ self .len) × (self .len < 48) ⌝ }
-        ensures { λ r. ⌜ Inserted self k (tx .0) r ⌝ }
+        ensures { λ r. ⌜ Inserted self k (numberOf tx) r ⌝ }
     {
         let mut r = self;
         let n = r.len;

@@ -8,12 +8,13 @@ use native.Mathlib.Omega.{arith}
 use native.Mathlib.Numerals.{add-one, add-two}
 use borrow.Author.Tests.{lt-ltb, le-ltb}
 use lib.ListN.{length, take, drop, getD, set, length-set}
-use lib.Seq.{sets}
+use lib.Seq.{sets, take-all}
 use Rattle.lists.specs.Lists.{consIf, keep, concatMap}
 use Rattle.lists.proofs.Keep.{length-keep}
 use Rattle.lists.proofs.Listing.{sets-front}
 use Rattle.lists.proofs.Loops.{rest-cons, rest-end}
 use Rattle.lists.proofs.Cuts.{rest-none}
+use Rattle.lists.proofs.Counting.{fill-next}
 use Rattle.rules.specs.Plain as plain
 use Rattle.rules.specs.Plain.{transactionOf, withEntries}
 use Rattle.rules.specs.Entries.{isClosed, closingDecision}
@@ -30,14 +31,15 @@ use Rattle.store.specs.Roster.{keysOf, Retained}
 use Rattle.store.specs.Issuers as issuers
 use Rattle.store.specs.Issuers.{pairsIn}
 use Rattle.ledger.specs.declared.Ledger.{Ledger}
-use Rattle.ledger.specs.Contents.{entriesOf, contents, Held}
-use Rattle.ledger.specs.Meets.{Meets}
-use Rattle.ledger.proofs.Lift.{withParts, Became, entries-length}
-use Rattle.ledger.proofs.Meeting.{refuses, passes, good-after, says, saysNo}
+use Rattle.ledger.specs.Contents.{entriesOf, contents, Held, withParts, lyingAt}
+use Rattle.ledger.specs.Meets.{Meets, says, saysNo}
+use Rattle.ledger.proofs.Places.{entries-length, entry-at}
+use Rattle.ledger.proofs.Lift.{Became, with-rows, kept-rows}
+use Rattle.ledger.proofs.Meeting.{refuses, passes, good-after}
 use Rattle.sweeps.specs.declared.closes.Closing.{Closing}
 use Rattle.sweeps.specs.Leaving.{unnamedBy, listedBy}
 use Rattle.sweeps.specs.Closing.{staysOpen, Judges, listed}
-use Rattle.sweeps.proofs.Several.{fill-one, fill-end, entries-cons, unnamed-index, kept-all}
+use Rattle.sweeps.proofs.Several.{unnamed-index}
 
 -- The entries judged: those before i are, in the arrays; those from i on are still to come.
 pub record Judging (l : Ledger) (stay : List Bool) (codes : List ℕ) (count i : ℕ) : Type 0 where
@@ -45,22 +47,27 @@ pub record Judging (l : Ledger) (stay : List Bool) (codes : List ℕ) (count i :
   pub few : count ≤ i
   pub stayLength : length stay ≡ 48
   pub codesLength : length codes ≡ 48
-  pub flags : take i stay ++ map (staysOpen (l .local .0)) (drop i (entriesOf l)) ≡ map (staysOpen (l .local .0)) (entriesOf l)
-  pub decisions : take i codes ++ map closingDecision (drop i (entriesOf l)) ≡ map closingDecision (entriesOf l)
+  pub flags : take i stay ≡ map (staysOpen (l .local .0)) (take i (entriesOf l))
+  pub decisions : take i codes ≡ map closingDecision (take i (entriesOf l))
   pub total : count + length (keep (isClosed (l .local .0)) (drop i (entriesOf l))) ≡ length (keep (isClosed (l .local .0)) (entriesOf l))
 
 module _ (l : Ledger) (h : Held l) (stay : List Bool) (codes : List ℕ) (count i : ℕ) (v : Judging l stay codes count i) where
   module _ (q : i < l .roster .len) (d : Entry) (code : ℕ) where
     abbrev here : Entry
-    here = getD (l .entries) (getD (l .roster .slots) i 0) d
+    here = lyingAt l i d
+
+    cons : drop i (entriesOf l) ≡ plainEntry here ∷ drop (i + 1) (entriesOf l)
+    cons = entry-at l h i q .next d
 
     module _ (k : code ≡ cond (here .returned) 2 1) where
-      codes-on : take (i + 1) (set codes i code) ++ map closingDecision (drop (i + 1) (entriesOf l)) ≡ map closingDecision (entriesOf l)
+      codes-on : take (i + 1) (set codes i code) ≡ map closingDecision (take (i + 1) (entriesOf l))
       unfolding plainEntry
-      codes-on = fill-one closingDecision codes i (plainEntry here) code (entriesOf l) (omega (arith, v .codesLength, q, h .roster .room)) (entries-cons l h i q d) k ∙ v .decisions
+      codes-on =
+          fill-next closingDecision codes (entriesOf l) i (plainEntry here) code (omega (arith, v .codesLength, q, h .roster .room)) (omega (arith, entries-length l h)) cons k (v .decisions)
 
-      stay-on : (b : Bool) → b ≡ not (isClosed (l .local .0) (plainEntry here)) → take (i + 1) (set stay i b) ++ map (staysOpen (l .local .0)) (drop (i + 1) (entriesOf l)) ≡ map (staysOpen (l .local .0)) (entriesOf l)
-      stay-on b e = fill-one (staysOpen (l .local .0)) stay i (plainEntry here) b (entriesOf l) (omega (arith, v .stayLength, q, h .roster .room)) (entries-cons l h i q d) e ∙ v .flags
+      stay-on : (b : Bool) → b ≡ not (isClosed (l .local .0) (plainEntry here)) → take (i + 1) (set stay i b) ≡ map (staysOpen (l .local .0)) (take (i + 1) (entriesOf l))
+      stay-on b e =
+          fill-next (staysOpen (l .local .0)) stay (entriesOf l) i (plainEntry here) b (omega (arith, v .stayLength, q, h .roster .room)) (omega (arith, entries-length l h)) cons e (v .flags)
 
       pub judge-closed : isClosed (l .local .0) (plainEntry here) ≡ true → Judging l (set stay i false) (set codes i code) (count + 1) (i + 1)
       judge-closed t =
@@ -71,7 +78,7 @@ module _ (l : Ledger) (h : Held l) (stay : List Bool) (codes : List ℕ) (count 
             codesLength = length-set codes i code ∙ v .codesLength;
             flags = stay-on false (sym (ap not t));
             decisions = codes-on;
-            total = omega (arith, rw (entries-cons l h i q d, t) at (v .total));
+            total = omega (arith, rw (cons, t) at (v .total));
           }
 
       pub judge-open : isClosed (l .local .0) (plainEntry here) ≡ false → Judging l (set stay i true) (set codes i code) count (i + 1)
@@ -83,7 +90,7 @@ module _ (l : Ledger) (h : Held l) (stay : List Bool) (codes : List ℕ) (count 
             codesLength = length-set codes i code ∙ v .codesLength;
             flags = stay-on true (sym (ap not t));
             decisions = codes-on;
-            total = rw (entries-cons l h i q d, t) at (v .total);
+            total = rw (cons, t) at (v .total);
           }
 
   pub judged-all : l .roster .len ≤ i → Judges l (record { stay = stay; codes = codes; count = count })
@@ -91,8 +98,8 @@ module _ (l : Ledger) (h : Held l) (stay : List Bool) (codes : List ℕ) (count 
       let z : i ≡ l .roster .len = omega (arith, v .high) in
       let n = entries-length l h in
       record {
-        stay = ap (λ j. take j stay) (sym z) ∙ sym (fill-end (staysOpen (l .local .0)) stay i (entriesOf l) (omega (arith, n))) ∙ v .flags;
-        codes = ap (λ j. take j codes) (sym z) ∙ sym (fill-end closingDecision codes i (entriesOf l) (omega (arith, n))) ∙ v .decisions;
+        stay = ap (λ j. take j stay) (sym z) ∙ v .flags ∙ ap (map (staysOpen (l .local .0))) (take-all i (entriesOf l) (omega (arith, n)));
+        codes = ap (λ j. take j codes) (sym z) ∙ v .decisions ∙ ap (map closingDecision) (take-all i (entriesOf l) (omega (arith, n)));
         count = omega (arith, rw (rest-none (entriesOf l) i (omega (arith, n))) at (v .total));
       }
 
@@ -177,15 +184,16 @@ module _ (l : Ledger) (h : Held l) (lent : List ℕ) (c : Closing) (j : Judges l
   kept-open : (r : Roster) → Retained (l .roster) (take (l .roster .len) (c .stay)) r → (x : Issuers) →
       issuers.Holds (unnamedBy (take (l .roster .len) (c .stay)) (keysOf (l .roster)) (pairsIn (l .issuers))) x →
       Good (withEntries (keep (λ e. not (isClosed (contents l .local) e)) (contents l .entries)) (contents l)) →
-      Became (withEntries (keep (λ e. not (isClosed (contents l .local) e)) (contents l .entries)) (contents l)) (withParts l r (l .entries) x)
+      Became (withEntries (keep (λ e. not (isClosed (contents l .local) e)) (contents l .entries)) (contents l)) (withParts l (l .rebuilt) r (l .entries) x (l .departures))
   unfolding contents
   kept-open r k x i g =
-      kept-all (staysOpen (l .local .0)) l h (take (l .roster .len) (c .stay)) r x (j .stay) k
-      (unnamed-index (staysOpen (l .local .0)) l h (take (l .roster .len) (c .stay)) x (j .stay) i) g
+      with-rows l h _ r (l .entries) x
+      (kept-rows l h (staysOpen (l .local .0)) (take (l .roster .len) (c .stay)) r x (j .stay) k
+      (unnamed-index (staysOpen (l .local .0)) l h (take (l .roster .len) (c .stay)) x (j .stay) i)) g
 
   pub closes-done : 2 * c .count ≤ length lent → (r : Roster) → Retained (l .roster) (take (l .roster .len) (c .stay)) r → (x : Issuers) →
       issuers.Holds (unnamedBy (take (l .roster .len) (c .stay)) (keysOf (l .roster)) (pairsIn (l .issuers))) x → (after : List ℕ) → after ≡ sets lent 0 (listed (l .roster) c) →
-      Meets (afterCloses (length lent) (contents l)) lent after (says (c .count) (withParts l r (l .entries) x))
+      Meets (afterCloses (length lent) (contents l)) lent after (says (c .count) (withParts l (l .rebuilt) r (l .entries) x (l .departures)))
   unfolding afterCloses
   closes-done q r k x i after w =
       let p = contents l in
@@ -196,8 +204,7 @@ module _ (l : Ledger) (h : Held l) (lent : List ℕ) (c : Closing) (j : Judges l
       passes (closesRefusal (length lent) p) p o lent after _ none
       (record {
         refused = refl;
-        answer = answer-of;
-        fallen = refl;
+        answers = ap (λ n. n ∷ 0 ∷ 0 ∷ []) answer-of;
         ledger = b .holds;
         wrote = w ∙ sets-front lent (listed (l .roster) c) (omega (arith, q, listed-length)) ∙ ap (λ m. m ++ drop (length m) lent) words-of;
         held = b .held;

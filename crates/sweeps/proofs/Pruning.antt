@@ -7,17 +7,17 @@ use mathlib.Core.List.{List, [], _∷_, _++_, map, append-assoc, append-nil}
 use native.Mathlib.Omega.{arith}
 use native.Mathlib.Numerals.{add-one, add-two}
 use lib.ListN.{length, take, drop, getD, set, replicate, length-set, length-append}
-use lib.Seq.{sets, sets-eq, take-at, take-suc, take-suc-set, take-set-lt, drop-set-lt, length-take-le, append-snoc}
+use lib.Seq.{sets, sets-eq, take-at, take-suc, take-suc-set, take-set-lt, drop-set-lt, length-take-le, append-snoc, take-all}
 use Rattle.lists.specs.Lists.{keep, any, zipBy, concatMap, Every}
 use Rattle.lists.proofs.Tests.{or-assoc, or-false}
 use Rattle.lists.proofs.Loops.{rest-cons, rest-end}
 use Rattle.lists.proofs.Cuts.{rest-more, rest-none}
-use Rattle.lists.proofs.Counting.{every-same}
+use Rattle.lists.proofs.Counting.{every-same, fill-next}
+use Rattle.lists.proofs.Maps.{put-back}
 use Rattle.rules.specs.Plain.{Entry, Departure}
 use Rattle.rules.specs.Prune.{holds}
 use Rattle.sweeps.specs.declared.prune.Pruning.{Pruning}
 use Rattle.sweeps.specs.Pruning.{orHolds}
-use Rattle.sweeps.proofs.Several.{fill-one, fill-end}
 
 -- The flags of the departures: those before j are set, those from j on still to come.
 module _ (local : ℕ) (e : Entry) (ds : List Departure) (n : ℕ) where
@@ -72,12 +72,6 @@ join-up f (b ∷ bs) [] h u = absurd (omega arith)
 join-up f (true ∷ bs) (d ∷ ds) h u = ap (λ l. true ∷ l) (join-up f bs ds (omega arith) u)
 join-up f (false ∷ bs) (d ∷ ds) h u = absurd (true≢false u)
 
--- what stands at a place set there again
-set-same : {A : Type 0} (l : List A) (i : ℕ) (x : A) → getD l i x ≡ x → set l i x ≡ l
-set-same [] i x h = refl
-set-same (y ∷ l) zero x h = ap (λ z. z ∷ l) (sym h)
-set-same (y ∷ l) (suc i) x h = ap (λ m. y ∷ m) (set-same l i x h)
-
 -- a row of three put behind the words
 row-on : (w : List ℕ) (a x y z : ℕ) → a + 3 ≤ length w → take (a + 3) (set (set (set w a x) (a + 1) y) (a + 2) z) ≡ take a w ++ (x ∷ y ∷ z ∷ [])
 row-on w a x y z h =
@@ -103,7 +97,7 @@ module _ (stands tells : Entry → Bool) (row : Entry → List ℕ) (held : Depa
     pub wordsLength : length (r .words) ≡ 144
     pub shut : r .«some_unneeded» ≡ false → any not (take (length ds) (r .needed)) ≡ false
     pub clear : Every (λ b. b ≡ false) (drop i (r .stay))
-    pub flags : take i (r .stay) ++ map stands (drop i es) ≡ map stands es
+    pub flags : take i (r .stay) ≡ map stands (take i es)
     pub needs : zipBy (λ b d. b || any (held d) (keep stands (drop i es))) (take (length ds) (r .needed)) ds ≡ map (λ d. any (held d) (keep stands es)) ds
     pub rows : take (3 * r .reports) (r .words) ++ concatMap row (reported (drop i es)) ≡ concatMap row (reported es)
     pub count : r .reports + length (reported (drop i es)) ≡ length (reported es)
@@ -133,12 +127,14 @@ module _ (stands tells : Entry → Bool) (row : Entry → List ℕ) (held : Depa
         here-clear : (getD (r .stay) i false ≡ false) × Every (λ b. b ≡ false) (drop (i + 1) (r .stay))
         here-clear = rw (rest-more false (r .stay) i (omega (arith, v .stayLength))) at (v .clear)
 
-        flags-on : (b : Bool) → b ≡ stands e → take (i + 1) (set (r .stay) i b) ++ map stands (drop (i + 1) es) ≡ map stands es
-        flags-on b t = fill-one stands (r .stay) i e b es (omega (arith, v .stayLength)) cons t ∙ v .flags
+        flags-on : (b : Bool) → b ≡ stands e → take (i + 1) (set (r .stay) i b) ≡ map stands (take (i + 1) es)
+        flags-on b t = fill-next stands (r .stay) es i e b (omega (arith, v .stayLength)) q cons t (v .flags)
 
         -- the flag of one that falls is down already
-        flags-down : stands e ≡ false → take (i + 1) (r .stay) ++ map stands (drop (i + 1) es) ≡ map stands es
-        flags-down t = rw (set-same (r .stay) i false (here-clear .0)) at (flags-on false (sym t))
+        flags-down : stands e ≡ false → take (i + 1) (r .stay) ≡ map stands (take (i + 1) es)
+        flags-down t =
+            let same : set (r .stay) i false ≡ r .stay = ap (set (r .stay) i) (sym (here-clear .0)) ∙ put-back (r .stay) i false in
+            rw same at (flags-on false (sym t))
 
         pub turn-stands : (needed : List Bool) («some_unneeded» : Bool) → length needed ≡ 32 → («some_unneeded» ≡ false → any not (take (length ds) needed) ≡ false) → stands e ≡ true →
             take (length ds) needed ≡ zipBy (λ b d. b || held d e) (take (length ds) (r .needed)) ds →
@@ -221,7 +217,7 @@ module _ (stands tells : Entry → Bool) (row : Entry → List ℕ) (held : Depa
         pub all-stay : (n : ℕ) → length es ≡ n → take n (r .stay) ≡ map stands es
         all-stay n e =
             let s : i ≡ n = omega (arith, v .high) in
-            ap (λ j. take j (r .stay)) (sym s) ∙ sym (fill-end stands (r .stay) i es z) ∙ v .flags
+            ap (λ j. take j (r .stay)) (sym s) ∙ v .flags ∙ ap (map stands) (take-all i es z)
 
         pub all-needed : take (length ds) (r .needed) ≡ map (λ d. any (held d) (keep stands es)) ds
         all-needed =

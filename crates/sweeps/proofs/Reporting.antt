@@ -1,37 +1,36 @@
 -- Prune on a ledger: each verdict is one turn of the pass, and the branches give what the rules say, from what the parts did.
 -- Assumes nothing.
 use Prim.Native.Nat.{ℕ, zero, suc, _+_, _*_, _≤_, _<_}
-use mathlib.Core.Path.{_≡_, refl, sym, ap, _∙_}
+use mathlib.Core.Path.{_≡_, refl, sym, ap, _∙_, ap₂}
 use mathlib.Core.Bool.{Bool, true, false, not}
 use mathlib.Core.List.{List, [], _∷_, _++_, map}
 use native.Mathlib.Omega.{arith}
 use native.Mathlib.Nat.{zero-add}
 use borrow.Author.Tests.{ltb-false}
 use lib.Dec.{ltb}
-use lib.ListN.{length, take, drop, getD, set, length-map, List·getD-map}
-use lib.Seq.{sets, sets-eq, getD-take}
+use lib.ListN.{length, take, drop, set, length-map}
+use lib.Seq.{sets, sets-eq}
 use Rattle.lists.specs.Lists.{keep, keepBy, any, zipBy, concatMap, Every}
 use Rattle.lists.proofs.Keep.{length-keep}
-use Rattle.lists.proofs.Distinct.{every-at, keepBy-test}
+use Rattle.lists.proofs.Distinct.{keepBy-test}
 use Rattle.rules.specs.Numbers.{isTime, isShard, isSpan}
 use Rattle.rules.specs.Plain as plain
-use Rattle.rules.specs.Plain.{withEntries, withDepartures}
 use Rattle.rules.specs.Prune.{Report, stands, ruleOf, isReported, reportOf, reportWords, holds, remains, survivors, fallen, reports, pruned}
 use Rattle.rules.specs.Outcome.{Outcome, _gives_then_}
 use Rattle.rules.specs.Calls.{pruneRefusal, afterPrune}
-use Rattle.rules.specs.Good.{Good, GoodEntry, GoodDeparture}
+use Rattle.rules.specs.Good.{GoodDeparture}
 use Rattle.rules.proofs.Kept.{pruned-kept}
+use Rattle.types.specs.Transactions.{numberOf}
 use Rattle.entry.specs.declared.Entry.{Entry}
 use Rattle.entry.specs.Entry.{plainEntry}
 use Rattle.store.specs.declared.roster.Roster.{Roster}
 use Rattle.store.specs.declared.issuers.Issuers.{Issuers}
 use Rattle.store.specs.declared.departures.Departures.{Departures}
-use Rattle.store.specs.Roster.{keysOf, slotsOf, Retained}
+use Rattle.store.specs.Roster.{keysOf, Retained}
 use Rattle.store.specs.Issuers as issuers
 use Rattle.store.specs.Issuers.{pairsIn}
 use Rattle.store.specs.Departures as departures
 use Rattle.store.specs.Departures.{onFile}
-use Rattle.store.proofs.Rosters.{slot-within}
 use Rattle.store.proofs.Filed.{file-length}
 use Rattle.judge.specs.declared.views.View.{View}
 use Rattle.judge.specs.declared.verdicts.Verdict.{Verdict}
@@ -40,14 +39,15 @@ use Rattle.judge.specs.View.{Shows}
 use Rattle.judge.specs.Verdict.{Says, Faces}
 use Rattle.judge.proofs.Seeing as seeing
 use Rattle.ledger.specs.declared.Ledger.{Ledger}
-use Rattle.ledger.specs.Contents.{entryIn, entriesOf, contents, Held}
-use Rattle.ledger.specs.Meets.{Meets}
-use Rattle.ledger.proofs.Lift.{withParts, Became, entries-length, entry-in, filed, withFile}
-use Rattle.ledger.proofs.Meeting.{refuses, passes, saysNo}
+use Rattle.ledger.specs.Contents.{entriesOf, contents, Held, withParts, lyingAt}
+use Rattle.ledger.specs.Meets.{Meets, saysNo}
+use Rattle.ledger.proofs.Places.{entries-length, entry-at}
+use Rattle.ledger.proofs.Lift.{Became, became, kept-rows}
+use Rattle.ledger.proofs.Meeting.{refuses, passes}
 use Rattle.sweeps.specs.declared.prune.Pruning.{Pruning}
 use Rattle.sweeps.specs.Leaving.{unnamedBy}
 use Rattle.sweeps.specs.Pruning.{orHolds, Columns, begun, Judges, refusalBy}
-use Rattle.sweeps.proofs.Several.{entries-cons, unnamed-index, kept-all}
+use Rattle.sweeps.proofs.Several.{unnamed-index}
 use Rattle.sweeps.proofs.Pruning.{Judging, judging-none, turn-stands, turn-idle, turn-falls, turn-reported, all-stay, all-needed, all-rows, all-count, all-gone}
 
 -- The pass as the rules judge.
@@ -94,39 +94,31 @@ module _ (l : Ledger) (h : Held l) (now : ℕ) where
 
   pub local-good : isShard (l .local .0) ≡ true
   unfolding contents
-  local-good = h .good .local
+  local-good = h .good .frame .local
 
   pub validity-good : isSpan (l .validity) ≡ true
   unfolding contents
-  validity-good = h .good .validity
+  validity-good = h .good .frame .validity
 
   pub leg-good : isSpan (l .«leg_span») ≡ true
   unfolding contents
-  leg-good = h .good .legSpan
+  leg-good = h .good .frame .legSpan
 
   pub file-good : Every GoodDeparture (onFile (l .departures))
   unfolding contents
-  file-good = h .good .departures
+  file-good = h .good .departures .rows .each
 
   -- the entry at a place
   module _ (i : ℕ) (q : i < l .roster .len) (d : Entry) where
     abbrev here : Entry
-    here = getD (l .entries) (getD (l .roster .slots) i 0) d
+    here = lyingAt l i d
 
-    here-is : getD (entriesOf l) i (entryIn (l .entries) 0) ≡ plainEntry here
-    here-is =
-        List·getD-map (entryIn (l .entries)) (slotsOf (l .roster)) i 0
-        ∙ ap (entryIn (l .entries)) (getD-take (l .roster .len) (l .roster .slots) i 0 q)
-        ∙ entry-in (l .entries) (getD (l .roster .slots) i 0) d (omega (arith, h .slots, slot-within (l .roster) i (h .roster) q))
-
-    here-good : GoodEntry (l .local .0) (plainEntry here)
-    unfolding contents
-    here-good =
-        rw here-is at (every-at (GoodEntry (l .local .0)) (entryIn (l .entries) 0) i (entriesOf l) (omega (arith, entries-length l h)) (h .good .entries))
+    cons : drop i (entriesOf l) ≡ plainEntry here ∷ drop (i + 1) (entriesOf l)
+    cons = entry-at l h i q .next d
 
     pub here-timed : isTime (here .at .0) ≡ true
     unfolding plainEntry
-    here-timed = here-good .terms .at
+    here-timed = entry-at l h i q .good d .terms .at
 
     module _ (v : View) (s : Shows (onFile (l .departures)) now v) (x : Verdict)
         (said : (p : plain.Plain) → Faces p now (l .local .0) (l .validity) (l .«leg_span») v → Says x p now (plainEntry here)) (r : Pruning) (k : JudgingIn l now r i) where
@@ -141,27 +133,27 @@ module _ (l : Ledger) (h : Held l) (now : ℕ) where
       pass-stands e needed «some_unneeded» size o n =
           let count = seeing.count (onFile (l .departures)) now v s in
           turn-stands (stands (contents l) now) (reporting l now) (rowOf l now) (holding l now) (entriesOf l) (onFile (l .departures)) file-few r i k entries-few
-          (plainEntry here) (omega (arith, entries-length l h)) (entries-cons l h i q d) needed «some_unneeded» size (λ z. rw count (sym o ∙ z)) (rw e at judgement)
+          (plainEntry here) (omega (arith, entries-length l h)) cons needed «some_unneeded» size (λ z. rw count (sym o ∙ z)) (rw e at judgement)
           (rw count (n (onFile (l .departures)) (record { good = s .good; shards = s .shards; zeros = s .zeros; cuts = s .cuts })))
 
       pub pass-idle : x ≡ Stands → r .«some_unneeded» ≡ false →
           JudgingIn l now (record { stay = set (r .stay) i true; needed = r .needed; «some_unneeded» = r .«some_unneeded»; words = r .words; reports = r .reports; fallen = r .fallen }) (i + 1)
       pass-idle e o =
           turn-idle (stands (contents l) now) (reporting l now) (rowOf l now) (holding l now) (entriesOf l) (onFile (l .departures)) file-few r i k entries-few
-          (plainEntry here) (omega (arith, entries-length l h)) (entries-cons l h i q d) o (rw e at judgement)
+          (plainEntry here) (omega (arith, entries-length l h)) cons o (rw e at judgement)
 
       pub pass-falls : x ≡ Falls → JudgingIn l now (record { stay = r .stay; needed = r .needed; «some_unneeded» = r .«some_unneeded»; words = r .words; reports = r .reports; fallen = r .fallen + 1 }) (i + 1)
       pass-falls e =
           let j : Says Falls (contents l) now (plainEntry here) = rw e at judgement in
           turn-falls (stands (contents l) now) (reporting l now) (rowOf l now) (holding l now) (entriesOf l) (onFile (l .departures)) file-few r i k entries-few
-          (plainEntry here) (omega (arith, entries-length l h)) (entries-cons l h i q d) (j .0) (j .1)
+          (plainEntry here) (omega (arith, entries-length l h)) cons (j .0) (j .1)
 
       pub pass-reported : (covered : ℕ) → x ≡ Reported covered →
           JudgingIn l now (record {
             stay = r .stay;
             needed = r .needed;
             «some_unneeded» = r .«some_unneeded»;
-            words = set (set (set (r .words) (3 * r .reports) (here .tx .0)) (3 * r .reports + 1) covered) (3 * r .reports + 2) (here .charge);
+            words = set (set (set (r .words) (3 * r .reports) (numberOf (here .tx))) (3 * r .reports + 1) covered) (3 * r .reports + 2) (here .charge);
             reports = r .reports + 1;
             fallen = r .fallen + 1;
           }) (i + 1)
@@ -169,8 +161,8 @@ module _ (l : Ledger) (h : Held l) (now : ℕ) where
       pass-reported covered e =
           let j : Says (Reported covered) (contents l) now (plainEntry here) = rw e at judgement in
           turn-reported (stands (contents l) now) (reporting l now) (rowOf l now) (holding l now) (entriesOf l) (onFile (l .departures)) file-few r i k entries-few
-          (plainEntry here) (omega (arith, entries-length l h)) (entries-cons l h i q d) (here .tx .0) covered (here .charge) (j .0) (j .1)
-          (ap (λ n. here .tx .0 ∷ n ∷ here .charge ∷ []) (j .2))
+          (plainEntry here) (omega (arith, entries-length l h)) cons (numberOf (here .tx)) covered (here .charge) (j .0) (j .1)
+          (ap (λ n. numberOf (here .tx) ∷ n ∷ here .charge ∷ []) (j .2))
 
   pub passed : (r : Pruning) (i : ℕ) → JudgingIn l now r i → l .roster .len ≤ i → Judges l now r
   unfolding contents survivors fallen reports
@@ -230,39 +222,17 @@ module _ (l : Ledger) (h : Held l) (now : ℕ) where
               file = d .file ∙ rw (j .needed) (keepBy-test (remains (l .local .0) (survivors now (contents l))) (onFile (l .departures)));
             }
 
-        stood-good : Good (withEntries (keep (stands (contents l) now) (contents l .entries)) (contents l))
-        unfolding pruned survivors
-        stood-good =
-            let g = pruned-kept now (contents l) (h .good) in
-            record {
-              local = g .local;
-              validity = g .validity;
-              coreSpan = g .coreSpan;
-              legSpan = g .legSpan;
-              entryCount = g .entryCount;
-              entries = g .entries;
-              entryOrder = g .entryOrder;
-              departureCount = h .good .departureCount;
-              departures = h .good .departures;
-              departureOrder = h .good .departureOrder;
-              rebuilt = g .rebuilt;
-            }
-
-        stood : Became (withEntries (keep (stands (contents l) now) (contents l .entries)) (contents l)) (withParts l r (l .entries) x)
-        stood =
-            kept-all (stands (contents l) now) l h (take (l .roster .len) (c .stay)) r x (j .stay) k
-            (unnamed-index (stands (contents l) now) l h (take (l .roster .len) (c .stay)) x (j .stay) i) stood-good
-
-        remained : Became (pruned now (contents l)) (withFile (withParts l r (l .entries) x) f)
-        unfolding pruned survivors
+        remained : Became (pruned now (contents l)) (withParts l (l .rebuilt) r (l .entries) x f)
+        unfolding contents pruned survivors
         remained =
-            let g : Good (withDepartures left (contents (withParts l r (l .entries) x))) = rw (stood .holds) (pruned-kept now (contents l) (h .good)) in
-            let b = filed (withParts l r (l .entries) x) (stood .held) left f left-file g in
-            record { held = b .held; holds = b .holds ∙ ap (withDepartures left) (stood .holds) }
+            became l (l .rebuilt) (keep (stands (contents l) now) (entriesOf l)) left r (l .entries) x f
+            (kept-rows l h (stands (contents l) now) (take (l .roster .len) (c .stay)) r x (j .stay) k
+            (unnamed-index (stands (contents l) now) l h (take (l .roster .len) (c .stay)) x (j .stay) i))
+            left-file (pruned-kept now (contents l) (h .good))
 
         pub prune-done : refusalBy now (c .reports) (length lent) ≡ 0 → (after : List ℕ) → after ≡ sets lent 0 (take (3 * c .reports) (c .words)) →
             Meets (afterPrune now (length lent) (contents l)) lent after
-            (record { refused = 0; answer = c .reports; fallen = c .fallen; ledger = withFile (withParts l r (l .entries) x) f })
+            (record { refused = 0; answers = c .reports ∷ c .fallen ∷ 0 ∷ []; ledger = withParts l (l .rebuilt) r (l .entries) x f })
         unfolding afterPrune
         prune-done q after w =
             let p = contents l in
@@ -273,8 +243,7 @@ module _ (l : Ledger) (h : Held l) (now : ℕ) where
             passes (pruneRefusal now (length lent) p) p o lent after _ none
             (record {
               refused = refl;
-              answer = j .count;
-              fallen = j .fallen;
+              answers = ap₂ (λ m n. m ∷ n ∷ 0 ∷ []) (j .count) (j .fallen);
               ledger = remained .holds;
               wrote = w ∙ ap (sets lent 0) (j .words) ∙ front;
               held = remained .held;

@@ -2,7 +2,7 @@
 use Prim.Native.Nat.{ℕ, _*_, _≤_}
 use mathlib.Core.Path.{_≡_}
 use mathlib.Core.Bool.{Bool, not}
-use mathlib.Core.List.{List, map}
+use mathlib.Core.List.{List, [], _∷_, map}
 use lib.ListN.{length, take}
 use Rattle.lists.specs.Lists.{keep}
 use Rattle.rules.specs.Plain.{Entry}
@@ -14,10 +14,10 @@ use Rattle.store.specs.Roster.{keysOf}
 use Rattle.store.specs.Issuers as issuers
 use Rattle.ledger.specs.declared.Ledger.{Ledger}
 use Rattle.ledger.specs.declared.Done.{Done}
-use Rattle.ledger.specs.Contents.{entriesOf}
+use Rattle.ledger.specs.Contents.{entriesOf, withParts}
 use Rattle.sweeps.specs.declared.closes.Closing.{Closing}
 use Rattle.sweeps.specs.declared.closes.Closed.{Closed}
-use Rattle.sweeps.specs.Leaving.{listedBy, having}
+use Rattle.sweeps.specs.Leaving.{listedBy}
 
 abbrev pub staysOpen : ℕ → Entry → Bool
 staysOpen local e = not (isClosed local e)
@@ -41,4 +41,4 @@ pub record Listable (c : Closing) (r : Roster) (x : Issuers) : Type 0 where
 
 -- what closes says, with the changed parts in the ledger
 abbrev pub put : Ledger → Closed → Done
-put l c = record { refused = c .refused; answer = c .answer; fallen = 0; ledger = having l (c .roster) (c .issuers) (l .departures) }
+put l c = record { refused = c .refused; answers = c .answer ∷ 0 ∷ 0 ∷ []; ledger = withParts l (l .rebuilt) (c .roster) (l .entries) (c .issuers) (l .departures) }

@@ -7,11 +7,7 @@ use lib.Dec.{eqb}
 use lib.ListN.{length, take}
 use Rattle.lists.specs.Lists.{keep}
 use Rattle.rules.specs.Index.{Pair}
-use Rattle.store.specs.declared.roster.Roster.{Roster}
-use Rattle.store.specs.declared.issuers.Issuers.{Issuers}
-use Rattle.store.specs.declared.departures.Departures.{Departures}
 use Rattle.store.specs.Issuers.{isNot}
-use Rattle.ledger.specs.declared.Ledger.{Ledger}
 use Rattle.sweeps.specs.declared.leaving.Dropped.{Dropped}
 
 -- the pairs without those of each transaction whose flag is down
@@ -44,18 +40,3 @@ listedBy [] ts cs = []
 listedBy (b ∷ bs) [] cs = []
 listedBy (b ∷ bs) (t ∷ ts) [] = []
 listedBy (b ∷ bs) (t ∷ ts) (c ∷ cs) = cond b (listedBy bs ts cs) (t ∷ c ∷ listedBy bs ts cs)
-
--- the ledger with these parts in it
-abbrev pub having : Ledger → Roster → Issuers → Departures → Ledger
-having l r x d =
-    record {
-      local = l .local;
-      validity = l .validity;
-      «core_span» = l .«core_span»;
-      «leg_span» = l .«leg_span»;
-      rebuilt = l .rebuilt;
-      roster = r;
-      entries = l .entries;
-      issuers = x;
-      departures = d;
-    }

@@ -21,10 +21,9 @@ use Rattle.store.specs.Departures.{onFile}
 use Rattle.judge.specs.View.{zerosOf, cutOf}
 use Rattle.ledger.specs.declared.Ledger.{Ledger}
 use Rattle.ledger.specs.declared.Done.{Done}
-use Rattle.ledger.specs.Contents.{entriesOf, contents}
+use Rattle.ledger.specs.Contents.{entriesOf, contents, withParts}
 use Rattle.sweeps.specs.declared.prune.Pruning.{Pruning}
 use Rattle.sweeps.specs.declared.prune.Pruned.{Pruned}
-use Rattle.sweeps.specs.Leaving.{having}
 
 -- a departure's flag, up also if the entry holds it
 abbrev pub orHolds : ℕ → Entry → Bool → Departure → Bool
@@ -62,4 +61,4 @@ pub record Prunable (p : Pruning) (r : Roster) (x : Issuers) (d : Departures) : 
 
 -- what prune says, with the changed parts in the ledger
 abbrev pub put : Ledger → Pruned → Done
-put l p = record { refused = p .refused; answer = p .answer; fallen = p .fallen; ledger = having l (p .roster) (p .issuers) (p .departures) }
+put l p = record { refused = p .refused; answers = p .answers; ledger = withParts l (l .rebuilt) (p .roster) (l .entries) (p .issuers) (p .departures) }

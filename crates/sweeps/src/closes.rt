@@ -6,9 +6,9 @@ ghost use lib.ListN.{length, take};
 ghost use lib.Seq.{sets};
 ghost use Rattle.rules.specs.Calls.{afterCloses};
 ghost use Rattle.ledger.specs.declared.Ledger.{Ledger};
-ghost use Rattle.ledger.specs.Contents.{Held, contents};
+ghost use Rattle.ledger.specs.Contents.{Held, contents, withParts};
 ghost use Rattle.ledger.specs.Meets.{Meets};
-ghost use Rattle.sweeps.specs.Leaving.{listedBy, having};
+ghost use Rattle.sweeps.specs.Leaving.{listedBy};
 ghost use Rattle.sweeps.specs.Closing.{Judges, Listable, put};
 use crate::leaving::without_dropped;
 use ledger::Done;
@@ -60,7 +60,7 @@ pub struct Closed {
 // What was judged carried out, unless the lent list is too short: of any ledger that has these parts and was judged so.
 fn apply_closing(c: Closing, roster: Roster, issuers: Issuers, lent: &mut [u64]) -> Closed
     requires { ⌜ Listable c roster issuers ⌝ }
-    ensures { λ r. ⌜ ((l : Ledger) → Held (having l roster issuers (l .departures)) → Judges (having l roster issuers (l .departures)) c → Meets (afterCloses (length (now (lent .entry))) (contents (having l roster issuers (l .departures)))) (now (lent .entry)) (now (lent .exit)) (put l r)) ⌝ }
+    ensures { λ r. ⌜ ((l : Ledger) → Held (withParts l (l .rebuilt) roster (l .entries) issuers (l .departures)) → Judges (withParts l (l .rebuilt) roster (l .entries) issuers (l .departures)) c → Meets (afterCloses (length (now (lent .entry))) (contents (withParts l (l .rebuilt) roster (l .entries) issuers (l .departures)))) (now (lent .entry)) (now (lent .exit)) (put l r)) ⌝ }
 {
     if (lent.len() as u64) < 2 * c.count {
         return Closed {
@@ -116,8 +116,7 @@ pub fn closes(mut ledger: Ledger, lent: &mut [u64]) -> Done
     ledger.issuers = unnamed;
     Done {
         refused: closed.refused,
-        answer: closed.answer,
-        fallen: 0,
+        answers: [closed.answer, 0, 0],
         ledger,
     }
 }

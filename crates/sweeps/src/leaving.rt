@@ -4,9 +4,9 @@ ghost use Rattle.store.specs.Roster as rosters;
 ghost use Rattle.store.specs.Roster.{keysOf};
 ghost use Rattle.store.specs.Issuers.{Sound, Holds, pairsIn};
 ghost use Rattle.sweeps.specs.Leaving.{unnamedBy, droppedBy, Fronts};
+use lists::slices::contains;
 use store::issuers::Issuers;
 use store::roster::Roster;
-use words::slices::contains;
 
 // Transactions at the front of an array.
 pub struct Dropped {

@@ -11,9 +11,8 @@ ghost use Rattle.rules.specs.Numbers.{isShard};
 ghost use Rattle.rules.specs.Calls.{afterPrune};
 ghost use Rattle.entry.specs.Entry.{plainEntry, Fits};
 ghost use Rattle.ledger.specs.declared.Ledger.{Ledger};
-ghost use Rattle.ledger.specs.Contents.{Held, contents};
+ghost use Rattle.ledger.specs.Contents.{Held, contents, withParts};
 ghost use Rattle.ledger.specs.Meets.{Meets};
-ghost use Rattle.sweeps.specs.Leaving.{having};
 ghost use Rattle.sweeps.specs.Pruning.{orHolds, Columns, begun, Judges, refusalBy, Prunable, put};
 use crate::leaving::without_dropped;
 use entry::Entry;
@@ -125,8 +124,7 @@ fn refusal(time: Time, reports: usize, room: usize) -> u64
 // What a prune says, and the parts of the ledger that it changes.
 pub struct Pruned {
     pub refused: u64,
-    pub answer: u64,
-    pub fallen: u64,
+    pub answers: [u64; 3],
     pub roster: Roster,
     pub issuers: Issuers,
     pub departures: Departures,
@@ -142,14 +140,13 @@ fn apply_pruning(
     lent: &mut [u64],
 ) -> Pruned
     requires { ⌜ Prunable p roster issuers departures ⌝ }
-    ensures { λ r. ⌜ ((l : Ledger) → Held (having l roster issuers departures) → Judges (having l roster issuers departures) (time .0) p → Meets (afterPrune (time .0) (length (now (lent .entry))) (contents (having l roster issuers departures))) (now (lent .entry)) (now (lent .exit)) (put l r)) ⌝ }
+    ensures { λ r. ⌜ ((l : Ledger) → Held (withParts l (l .rebuilt) roster (l .entries) issuers departures) → Judges (withParts l (l .rebuilt) roster (l .entries) issuers departures) (time .0) p → Meets (afterPrune (time .0) (length (now (lent .entry))) (contents (withParts l (l .rebuilt) roster (l .entries) issuers departures))) (now (lent .entry)) (now (lent .exit)) (put l r)) ⌝ }
 {
     let refused = refusal(time, p.reports, lent.len());
     if 0 < refused {
         return Pruned {
             refused,
-            answer: 0,
-            fallen: 0,
+            answers: [0, 0, 0],
             roster,
             issuers,
             departures,
@@ -161,8 +158,7 @@ fn apply_pruning(
     write_reports(words, 3 * p.reports, lent);
     Pruned {
         refused: 0,
-        answer: p.reports as u64,
-        fallen: p.fallen,
+        answers: [p.reports as u64, p.fallen, 0],
         roster: roster.retain(stay),
         issuers: without_dropped(issuers, roster, stay),
         departures: departures.retain(needed),
@@ -222,10 +218,10 @@ pub fn prune(mut ledger: Ledger, time: Time, lent: &mut [u64]) -> Done
     ledger.roster = left;
     ledger.issuers = unnamed;
     ledger.departures = remaining;
+    let answers = done.answers;
     Done {
         refused: done.refused,
-        answer: done.answer,
-        fallen: done.fallen,
+        answers,
         ledger,
     }
 }

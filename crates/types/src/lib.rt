@@ -2,8 +2,9 @@
 // a shard's depth and the routes it owns, record keys and cell keys.
 ghost use mathlib.Core.Path.{_≡_};
 ghost use mathlib.Core.Bool.{true};
-ghost use lib.Dec.{leb};
+ghost use lib.Dec.{eqb, leb};
 ghost use Rattle.rules.specs.Numbers.{isTime, isShard, isSpan, depth, owns, shardForRoute, recordKey, cellKey};
+ghost use Rattle.types.specs.Transactions.{numberOf};
 
 // A time in milliseconds.
 pub struct Time(pub u64);
@@ -40,6 +41,14 @@ impl Time {
         ensures { λ r. ⌜ r ≡ leb (self .0) (time .0) ⌝ }
     {
         self.0 <= time.0
+    }
+}
+
+impl Transaction {
+    pub fn is(self, other: Transaction) -> bool
+        ensures { λ r. ⌜ r ≡ eqb (numberOf self) (numberOf other) ⌝ }
+    {
+        self.0 == other.0
     }
 }
 
@@ -81,7 +90,7 @@ pub fn record_key(id: u64) -> RecordKey
 
 // The key of the cell in which a shard notes that it committed a transaction.
 pub fn cell_key(tx: Transaction, end: Time, shard: Shard) -> u64
-    ensures { λ r. ⌜ r ≡ cellKey (tx .0) (end .0) (shard .0) ⌝ }
+    ensures { λ r. ⌜ r ≡ cellKey (numberOf tx) (end .0) (shard .0) ⌝ }
 {
     std::num::wrapping_add_u64(std::num::wrapping_add_u64(tx.0, end.0), shard.0)
 }

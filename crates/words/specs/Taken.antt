@@ -34,6 +34,9 @@ partIn local ws = cond (eqb (decomposed ws) 0) whole (cond (has self local (core
 abbrev pub figuresTimed : ℕ → List ℕ → Bool
 figuresTimed at ws = allOf (isTime (word (at + 1) ws) ∷ isTime (word (at + 2) ws) ∷ isTime (word (at + 3) ws) ∷ [])
 
--- the i-th group of a record, its routes from a place on
+-- the i-th group of a record: how many routes it has, and its terms, with the routes from a place on
+abbrev pub reachAt : List ℕ → ℕ → ℕ
+reachAt ws i = word (2 + i) ws
+
 abbrev pub groupAt : List ℕ → ℕ → ℕ → Terms
-groupAt ws i at = groupTerms (drop (groupsAt ws + groupSize ws * i) ws) (part at (word (2 + i) ws) ws)
+groupAt ws i at = groupTerms (drop (groupsAt ws + groupSize ws * i) ws) (part at (reachAt ws i) ws)

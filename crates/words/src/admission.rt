@@ -6,19 +6,20 @@ use crate::layout::destinations_in;
 use crate::layout::froms_in;
 use crate::layout::kinds_in;
 use crate::layout::sizes_in;
-use crate::slices::all_shards;
-use crate::slices::all_within;
-use crate::slices::lists_rise;
-use crate::slices::rises;
-use crate::slices::size;
-use crate::slices::total;
-use crate::slices::word_at;
+use crate::shards::all_shards;
+use lists::slices::all_within;
+use lists::slices::lists_rise;
+use lists::slices::rises;
+use lists::slices::size;
+use lists::slices::total;
+use lists::slices::word_at;
 use types::Transaction;
 use types::is_time;
 ghost use mathlib.Core.Path.{_≡_};
 ghost use mathlib.Core.Bool.{true};
 ghost use Rattle.lists.specs.Lists.{allOf};
 ghost use Rattle.rules.specs.Words.{admissionTerms, admissionFormed, admissionTimed, admissionPlaced};
+ghost use Rattle.types.specs.Transactions.{numberOf};
 ghost use Rattle.words.specs.Admission.{countTests, sizeTests, codeTests, orderTests, Counted, Sized};
 
 // The sizes that come first are within their limits.
@@ -117,7 +118,7 @@ pub fn admission_placed(words: &[u64]) -> bool
 }
 
 pub fn admission_transaction(words: &[u64]) -> Transaction
-    ensures { λ r. ⌜ r .0 ≡ admissionTerms (now (words .entry)) .transaction ⌝ }
+    ensures { λ r. ⌜ numberOf r ≡ admissionTerms (now (words .entry)) .transaction ⌝ }
 {
     Transaction(word_at(words, 3))
 }

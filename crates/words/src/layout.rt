@@ -1,7 +1,7 @@
 // Where the parts of an admission's words start, and the parts.
-use crate::slices::part;
-use crate::slices::rest;
-use crate::slices::size_at;
+use lists::slices::part;
+use lists::slices::rest;
+use lists::slices::size_at;
 ghost use mathlib.Core.Path.{_≡_};
 ghost use lib.ListN.{drop};
 ghost use Rattle.lists.specs.Lists.{part};

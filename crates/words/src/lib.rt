@@ -4,5 +4,5 @@ pub mod admission;
 pub mod finalization;
 pub mod layout;
 pub mod record;
-pub mod slices;
+mod shards;
 pub mod taken;

@@ -1,13 +1,13 @@
 // Abandonment record: n, shard; n reach sizes; n groups of transaction, at, end, anchor, charge; routes joined.
-use crate::slices::all_within;
-use crate::slices::part;
-use crate::slices::size;
-use crate::slices::size_at;
-use crate::slices::total;
-use crate::slices::word_at;
 use crate::taken::bare;
 use entry::Entry;
 use entry::Part;
+use lists::slices::all_within;
+use lists::slices::part;
+use lists::slices::size;
+use lists::slices::size_at;
+use lists::slices::total;
+use lists::slices::word_at;
 use types::Shard;
 use types::Transaction;
 use types::is_time;
@@ -19,7 +19,8 @@ ghost use Rattle.lists.specs.Lists.{total, self};
 ghost use Rattle.rules.specs.Words.{transactionAt, groupCount, recordShard, reachSizes, groupSize, groupsAt, recordFormed, recordTimed};
 ghost use Rattle.rules.specs.Entries.{rebuilt};
 ghost use Rattle.entry.specs.Entry.{Means};
-ghost use Rattle.words.specs.Taken.{groupAt, figuresTimed};
+ghost use Rattle.words.specs.Taken.{groupAt, reachAt, figuresTimed};
+ghost use Rattle.types.specs.Transactions.{numberOf};
 
 pub fn record_formed(words: &[u64]) -> bool
     ensures { λ r. ⌜ r ≡ recordFormed (now (words .entry)) ⌝ }
@@ -75,7 +76,7 @@ pub fn record_timed(words: &[u64]) -> bool
 
 pub fn group_transaction(words: &[u64], i: usize) -> Transaction
     requires { ⌜ (recordFormed (now words) ≡ true) × (i < groupCount (now words)) ⌝ }
-    ensures { λ r. ⌜ r .0 ≡ transactionAt (groupsAt (now (words .entry)) + groupSize (now (words .entry)) * i) (now (words .entry)) ⌝ }
+    ensures { λ r. ⌜ numberOf r ≡ transactionAt (groupsAt (now (words .entry)) + groupSize (now (words .entry)) * i) (now (words .entry)) ⌝ }
 {
     let n = size_at(words, 0);
     Transaction(word_at(words, 2 + n + 5 * i))
@@ -97,4 +98,27 @@ pub fn group(words: &[u64], i: usize, at: usize) -> Entry
         2,
         Shard(word_at(words, 1)),
     )
+}
+
+// The shard whose record it is.
+pub fn record_shard(words: &[u64]) -> Shard
+    ensures { λ r. ⌜ r .0 ≡ recordShard (now (words .entry)) ⌝ }
+{
+    Shard(word_at(words, 1))
+}
+
+// Where the routes of n groups start.
+pub fn reaches_at(n: usize) -> usize
+    requires { ⌜ n ≤ 48 ⌝ }
+    ensures { λ r. ⌜ r ≡ 2 + n + 5 * n ⌝ }
+{
+    2 + n + 5 * n
+}
+
+// How many routes the i-th group has.
+pub fn reach_at(words: &[u64], i: usize) -> usize
+    requires { ⌜ i < 48 ⌝ }
+    ensures { λ r. ⌜ r ≡ reachAt (now (words .entry)) i ⌝ }
+{
+    size_at(words, 2 + i)
 }

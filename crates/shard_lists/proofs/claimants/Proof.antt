@@ -4,15 +4,16 @@ use mathlib.Core.Path.{refl, sym, _∙_}
 use native.Mathlib.Omega.{arith}
 use Rattle.ledger.specs.Contents.{contents}
 use Rattle.rules.specs.Readings.{claimants, claimantsOf}
+use Rattle.types.specs.Transactions.{numberOf}
 use Rattle.shard_lists.proofs.Listed.{Owed, owed-at, not-owed, set-room, of-owed}
 use borrow.Author.Needs.{needs}
 use Rattle.shard_lists.proofs.claimants.Statement.{statement}
 use Rattle.shard_lists.proofs.claimants.Tie as tie
 
-there : (c : tie.After-k) → Owed (c .before .before .before .before .before .args .t1) (c .before .before .before .before .before .args .tx .0) (c .k .given .0 .0)
+there : (c : tie.After-k) → Owed (c .before .before .before .before .before .args .t1) (numberOf (c .before .before .before .before .before .args .tx)) (c .k .given .0 .0)
 there c =
     let s = c .before .before .before .before .before in
-    owed-at (s .args .t1) (s .pre) (s .args .tx .0) (c .k .given .0 .0) (sym (c .before .before .find .ensures) ∙ c .k .given .1)
+    owed-at (s .args .t1) (s .pre) (numberOf (s .args .tx)) (c .k .given .0 .0) (sym (c .before .before .find .ensures) ∙ c .k .given .1)
 
 find-requires : tie.Need-find-requires
 find-requires c κs = search needs
@@ -31,7 +32,7 @@ unfolding claimants contents
 returns c =
     let s = c .before .before .before .before .before .before in
     let a = s .args in
-    not-owed (a .t1) (s .pre) (a .tx .0) (a .lent .now) (claimantsOf (a .t1 .local .0) (a .r .0)) 0 refl _ (sym (c .before .before .before .find .ensures) ∙ c .before .enum-told .given .1) (c .answer .ensures)
+    not-owed (a .t1) (s .pre) (numberOf (a .tx)) (a .lent .now) (claimantsOf (a .t1 .local .0) (a .r .0)) 0 refl _ (sym (c .before .before .before .find .ensures) ∙ c .before .enum-told .given .1) (c .answer .ensures)
 
 mul-slot : tie.Need-mul-slot
 mul-slot c = omega (arith, there (c .before) .place)
@@ -64,7 +65,7 @@ returns-2 c =
     let s = k .before .before .before .before .before in
     let a = s .args in
     let d = c .before .before .before .before .before .destinations .ensures in
-    of-owed (a .t1) (s .pre) (a .tx .0) (a .lent .now) (claimantsOf (a .t1 .local .0) (a .r .0)) 0 refl (k .k .given .0 .0) _ _ _ _ _
+    of-owed (a .t1) (s .pre) (numberOf (a .tx)) (a .lent .now) (claimantsOf (a .t1 .local .0) (a .r .0)) 0 refl (k .k .given .0 .0) _ _ _ _ _
     (sym (k .before .before .find .ensures) ∙ k .k .given .1) (set-room d) (d .holds) (c .before .before .list .ensures)
 
 pub claimants-spec : {M : Type 1} → statement M

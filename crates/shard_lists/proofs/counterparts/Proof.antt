@@ -8,11 +8,12 @@ use Rattle.shard_lists.proofs.Listed.{Owed, owed-at, too-deep, no-count
 use borrow.Author.Needs.{needs}
 use Rattle.shard_lists.proofs.counterparts.Statement.{statement}
 use Rattle.shard_lists.proofs.counterparts.Tie as tie
+use Rattle.types.specs.Transactions.{numberOf}
 
-there : (c : tie.After-k) → Owed (c .before .before .before .before .before .before .args .t1) (c .before .before .before .before .before .before .args .tx .0) (c .k .given .0 .0)
+there : (c : tie.After-k) → Owed (c .before .before .before .before .before .before .args .t1) (numberOf (c .before .before .before .before .before .before .args .tx)) (c .k .given .0 .0)
 there c =
     let s = c .before .before .before .before .before .before in
-    owed-at (s .args .t1) (s .pre) (s .args .tx .0) (c .k .given .0 .0) (sym (c .before .before .find .ensures) ∙ c .k .given .1)
+    owed-at (s .args .t1) (s .pre) (numberOf (s .args .tx)) (c .k .given .0 .0) (sym (c .before .before .find .ensures) ∙ c .k .given .1)
 
 refusal-requires : tie.Need-refusal-requires
 refusal-requires c κs = search needs
@@ -21,7 +22,7 @@ returns : tie.Need-returns
 returns c =
     let s = c .before .before .before in
     let a = s .args in
-    too-deep (a .t1) (s .pre) (a .tx .0) (a .depth) (a .lent .now) _ (omega arith) (c .refusal .ensures)
+    too-deep (a .t1) (s .pre) (numberOf (a .tx)) (a .depth) (a .lent .now) _ (omega arith) (c .refusal .ensures)
 
 find-requires : tie.Need-find-requires
 find-requires c κs = search needs
@@ -39,7 +40,7 @@ returns-2 : tie.Need-returns-2
 returns-2 c =
     let s = c .before .before .before .before .before .before .before in
     let a = s .args in
-    no-counterparts (a .t1) (s .pre) (a .tx .0) (a .depth) (a .lent .now) _ (omega arith) (sym (c .before .before .before .find .ensures) ∙ c .before .enum-told .given .1) (c .answer .ensures)
+    no-counterparts (a .t1) (s .pre) (numberOf (a .tx)) (a .depth) (a .lent .now) _ (omega arith) (sym (c .before .before .before .find .ensures) ∙ c .before .enum-told .given .1) (c .answer .ensures)
 
 mul-slot : tie.Need-mul-slot
 mul-slot c = omega (arith, there (c .before) .place)
@@ -61,7 +62,7 @@ unfolding contents
 beyond-requires c κs =
     let k = c .before .before .before .before .before .before in
     let s = k .before .before .before .before .before .before in
-    (there k .fits _, record { sound = s .pre .departures; good = s .pre .good .departures }, s .pre .good .local, le-leb (s .args .depth) 32 (omega arith), search needs)
+    (there k .fits _, record { sound = s .pre .departures; rising = s .pre .good .departures .rows .order; good = s .pre .good .departures .rows .each }, s .pre .good .frame .local, le-leb (s .args .depth) 32 (omega arith), search needs)
 
 slice-aggregate-list : tie.Need-slice-aggregate-list
 slice-aggregate-list c = sym (c .before .beyond .ensures .sound .sized .size)
@@ -77,7 +78,7 @@ returns-3 c =
     let k = c .before .before .before .before .before .before .before .before .before .before .before .before in
     let s = k .before .before .before .before .before .before in
     let a = s .args in
-    of-counterparts (a .t1) (s .pre) (a .tx .0) (a .depth) (a .lent .now) (omega arith) (k .k .given .0 .0) _ _ _ _
+    of-counterparts (a .t1) (s .pre) (numberOf (a .tx)) (a .depth) (a .lent .now) (omega arith) (k .k .given .0 .0) _ _ _ _
     (sym (k .before .before .find .ensures) ∙ k .k .given .1) (c .before .before .before .before .before .beyond .ensures) (c .before .before .list .ensures)
 
 pub counterparts-spec : {M : Type 1} → statement M

@@ -4,15 +4,16 @@ use mathlib.Core.Path.{refl, sym, _∙_}
 use native.Mathlib.Omega.{arith}
 use Rattle.entry.specs.Entry.{plainEntry}
 use Rattle.rules.specs.Plain as plain
+use Rattle.types.specs.Transactions.{numberOf}
 use Rattle.shard_lists.proofs.Listed.{Owed, owed-at, routes-room, not-owed, of-owed}
 use borrow.Author.Needs.{needs}
 use Rattle.shard_lists.proofs.reach.Statement.{statement}
 use Rattle.shard_lists.proofs.reach.Tie as tie
 
-there : (c : tie.After-k) → Owed (c .before .before .before .before .before .args .t1) (c .before .before .before .before .before .args .tx .0) (c .k .given .0 .0)
+there : (c : tie.After-k) → Owed (c .before .before .before .before .before .args .t1) (numberOf (c .before .before .before .before .before .args .tx)) (c .k .given .0 .0)
 there c =
     let s = c .before .before .before .before .before in
-    owed-at (s .args .t1) (s .pre) (s .args .tx .0) (c .k .given .0 .0) (sym (c .before .before .find .ensures) ∙ c .k .given .1)
+    owed-at (s .args .t1) (s .pre) (numberOf (s .args .tx)) (c .k .given .0 .0) (sym (c .before .before .find .ensures) ∙ c .k .given .1)
 
 find-requires : tie.Need-find-requires
 find-requires c κs = search needs
@@ -29,7 +30,7 @@ answer-requires c κs = search needs
 returns : tie.Need-returns
 returns c =
     let s = c .before .before .before .before .before .before in
-    not-owed (s .args .t1) (s .pre) (s .args .tx .0) (s .args .lent .now) (λ (e : plain.Entry). e .terms .routes) 0 refl _ (sym (c .before .before .before .find .ensures) ∙ c .before .enum-told .given .1) (c .answer .ensures)
+    not-owed (s .args .t1) (s .pre) (numberOf (s .args .tx)) (s .args .lent .now) (λ (e : plain.Entry). e .terms .routes) 0 refl _ (sym (c .before .before .before .find .ensures) ∙ c .before .enum-told .given .1) (c .answer .ensures)
 
 mul-slot : tie.Need-mul-slot
 mul-slot c = omega (arith, there (c .before) .place)
@@ -60,7 +61,7 @@ unfolding plainEntry
 returns-2 c =
     let k = c .before .before .before .before .before .before .before .before .before .before in
     let s = k .before .before .before .before .before in
-    of-owed (s .args .t1) (s .pre) (s .args .tx .0) (s .args .lent .now) (λ (e : plain.Entry). e .terms .routes) 0 refl (k .k .given .0 .0) _ _ _ _ _
+    of-owed (s .args .t1) (s .pre) (numberOf (s .args .tx)) (s .args .lent .now) (λ (e : plain.Entry). e .terms .routes) 0 refl (k .k .given .0 .0) _ _ _ _ _
     (sym (k .before .before .find .ensures) ∙ k .k .given .1) (routes-room (there k .fits _)) refl (c .before .before .list .ensures)
 
 pub reach-spec : {M : Type 1} → statement M

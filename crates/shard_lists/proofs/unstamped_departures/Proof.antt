@@ -11,7 +11,7 @@ unstamped-requires : tie.Need-unstamped-requires
 unfolding contents
 unstamped-requires c κs =
     let s = c .before .before .before in
-    (s .pre .departures, s .pre .good .departureOrder, search needs)
+    (s .pre .departures, s .pre .good .departures .rows .order, search needs)
 
 slice-aggregate-list : tie.Need-slice-aggregate-list
 slice-aggregate-list c = sym (c .before .unstamped .ensures .sound .sized .size)

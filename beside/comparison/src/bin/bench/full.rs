@@ -1,7 +1,9 @@
 //! The calls that go over all of a full ledger: prune, closes and the long lists.
 
 use crate::cases::{Case, Swap};
-use crate::ledgers::{Entry, FULL, MAKING, departures, line, rebuilt, settlements};
+use crate::ledgers::{
+    Entry, FULL, MAKING, departures, departures_on_one_path, line, rebuilt, record, settlements,
+};
 
 pub fn cases() -> Vec<Case> {
     [prunes(), closes(), lists()]
@@ -37,7 +39,9 @@ fn prunes() -> Vec<Case> {
         vec![line("record_terminal", &[5, 14, 1, 30])],
     ]
     .concat();
+    let cores = ledger(|tx| Entry::core(tx, 0));
     vec![
+        Case::repeated("prune, all stand by rule 1", FULL, &cores, prune(31)),
         stand("prune, each stands at its first route", 0),
         stand("prune, each stands at its eighth route", 7),
         fall("prune, all fall, named (reports' text included)", &named),
@@ -84,16 +88,34 @@ fn all_close(call: String) -> Case {
     Case::swapped(name, FULL, &legs, Swap::of_one(with, without, call))
 }
 
+/// The longest lists, and the readings that look at most of a ledger for a short one.
 fn lists() -> Vec<Case> {
     let cores = ledger(|tx| Entry::core(tx, 0));
+    let legs = ledger(|tx| Entry::leg(tx, 8));
+    let sharing = ledger(|tx| Entry::leg(tx, 8).sharing());
+    let together = [
+        ledger(|tx| Entry::whole(tx).reaching_together()),
+        departures_on_one_path(),
+    ]
+    .concat();
     let row = |name, setup: &[String], call: &str| Case::repeated(name, FULL, setup, call.into());
     vec![
         row("questions, 336", &cores, "questions lent 1680"),
         row("past deadline, 48", &cores, "past_deadline 1000 lent 240"),
         row(
-            "counterparts, 8 routes and 32 departures",
-            &executed(8),
-            "counterparts 25 12 lent 40",
+            "issuers, one in an index of 384 pairs",
+            &legs,
+            &format!("issuers_of {} lent 2", record(25, 7)),
+        ),
+        row(
+            "issuers, 48 in an index of 384 pairs",
+            &sharing,
+            &format!("issuers_of {} lent 96", record(1, 7)),
+        ),
+        row(
+            "counterparts, 8 routes that each of 32 departures owns",
+            &together,
+            "counterparts 25 32 lent 40",
         ),
     ]
 }

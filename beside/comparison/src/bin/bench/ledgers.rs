@@ -22,29 +22,51 @@ pub fn routes(tx: u64) -> Vec<u64> {
     (0..8).map(|group| ((8 + group) << 60) + tx).collect()
 }
 
+/// Eight routes that lie together down to depth 32 and further.
+fn routes_together(tx: u64) -> Vec<u64> {
+    (0..8).map(|n| (1 << 63) + tx * 8 + n).collect()
+}
+
+/// A departure of each shard on the path to such routes, from depth 1 to 32: all own all of them.
+pub fn departures_on_one_path() -> Vec<String> {
+    (0..32)
+        .map(|deep| line("record_terminal", &[3 << deep, 14, 1, 30]))
+        .collect()
+}
+
 /// The key of an entry's n-th crossing, which is also its id.
 pub fn record(tx: u64, n: u64) -> u64 {
     tx * 8 + n
+}
+
+/// Where an entry's routes lie: eight in eight shards, eight together, or none.
+#[derive(Clone, Copy)]
+enum Reach {
+    Apart,
+    Together,
+    Nowhere,
 }
 
 /// An entry as an admission gives it, with deadline 1000 to 2000, anchor 10 and charge 77.
 #[derive(Clone, Copy)]
 pub struct Entry {
     tx: u64,
-    /// Whether it has eight remote routes or none.
-    reaches: bool,
+    reach: Reach,
     core: &'static [u64],
     /// Crossings from local, each to shard 5.
     edges: u64,
+    /// Whether their ids are those of transaction 1, as every other entry's that shares them.
+    shared: bool,
 }
 
 impl Entry {
     fn new(tx: u64, core: &'static [u64], edges: u64) -> Self {
         Self {
             tx,
-            reaches: true,
+            reach: Reach::Apart,
             core,
             edges,
+            shared: false,
         }
     }
 
@@ -63,8 +85,20 @@ impl Entry {
 
     /// The same without routes, so that it takes less text.
     pub fn reaching_nowhere(self) -> Self {
-        let reaches = false;
-        Self { reaches, ..self }
+        let reach = Reach::Nowhere;
+        Self { reach, ..self }
+    }
+
+    /// The same with all routes on one path.
+    pub fn reaching_together(self) -> Self {
+        let reach = Reach::Together;
+        Self { reach, ..self }
+    }
+
+    /// The same with ids that others have too.
+    pub fn sharing(self) -> Self {
+        let shared = true;
+        Self { shared, ..self }
     }
 
     pub fn taken_in(self) -> String {
@@ -79,13 +113,19 @@ impl Entry {
     fn admission(self, decomposed: u64) -> String {
         let Self {
             tx,
-            reaches,
+            reach,
             core,
             edges,
+            shared,
         } = self;
-        let routes = if reaches { routes(tx) } else { Vec::new() };
+        let routes = match reach {
+            Reach::Apart => routes(tx),
+            Reach::Together => routes_together(tx),
+            Reach::Nowhere => Vec::new(),
+        };
         let each = |word| vec![word; edges as usize];
-        let ids = (0..edges).map(|n| record(tx, n)).collect();
+        let first = if shared { 1 } else { tx };
+        let ids = (0..edges).map(|n| record(first, n)).collect();
         let sizes = vec![routes.len() as u64, core.len() as u64, edges];
         let terms = vec![tx, 1000, 2000, 10, 77, decomposed];
         let (froms, kinds, counts, destinations) = (each(4), each(0), each(1), each(5));

@@ -148,9 +148,8 @@ impl<'a> Bench<'a> {
             port.lines(&case.setup, &block.lines)?,
         ];
         let bare = [rust.cost(case)?, port.cost(case)?];
-        let name = format!("a block of {} calls, as lines", block.calls);
         let rows = [
-            self.row(name, case.entries, lines),
+            self.row(block.name.clone(), case.entries, lines),
             self.row(case.name.to_string(), case.entries, bare),
         ];
         Ok(rows.into_iter().flatten().collect())
@@ -186,6 +185,9 @@ impl<'a> Bench<'a> {
             .zip(shown)
             .map(|(title, rows)| Group { title, rows })
             .collect();
+        if let Some(name) = picture::name_twice(&groups) {
+            return Err(format!("two rows of the picture are named: {name}").into());
+        }
         let docs = root.join("docs");
         fs::create_dir_all(&docs)?;
         let (page, picture) = (docs.join("BENCHMARK.md"), docs.join("benchmark.svg"));

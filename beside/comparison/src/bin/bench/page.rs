@@ -11,7 +11,7 @@ const COLUMNS: [&str; 6] = [
     "the port in hand-overs",
 ];
 
-const INTRODUCTION: [&str; 4] = [
+const INTRODUCTION: [&str; 5] = [
     "`beside/bench` makes this page and its picture: both sides in one run on the same machine, over the same scripts, whose answers it first \
      finds equal.",
     "A row is what a call costs on a ledger with so many entries, in the processor's time and by the best of several runs: a script that \
@@ -19,6 +19,10 @@ const INTRODUCTION: [&str; 4] = [
      changes the ledger is timed in a block of lines that restores it, less a block with idle lines of the same length in its place: the \
      median difference of runs that take turns, and what the idle lines cost by `repeat` is added. So the text, and what the programs do \
      around a call, drops out unless the row says otherwise; calls that are named together are counted together.",
+    "A lent list is filled anew before each turn. What that takes is measured on each side, by a reading that finds nothing to write, with \
+     such a list and with none, and is taken off. The loop around a call is left in: it is less than `local` costs, the smallest call. On both sides a call \
+     begins with the numbers of its line and ends with the words of its answer: the Rust's types are made of the words of an admission, a record or a \
+     finalization, and its lists are written out as words.",
     "Behind ± stands how far a figure scatters, where that is more than a tenth of it. Of a row in which it is more than a third no quotient \
      is told.",
     "On an empty ledger calls name transactions that are not owed. Where all fall or close, what the Rust frees drops out too: \

@@ -1,5 +1,6 @@
 //! The picture of the main rows, as SVG: for each row a bar for the Rust and one for the port, on a logarithmic scale.
 
+use std::collections::HashSet;
 use std::fmt::Write;
 
 use crate::page::{Row, nanoseconds};
@@ -19,6 +20,16 @@ const PORT: &str = "#2f6f9f";
 pub struct Group<'a> {
     pub title: &'a str,
     pub rows: &'a [Row],
+}
+
+/// A name that two rows have.
+pub fn name_twice<'a>(groups: &[Group<'a>]) -> Option<&'a str> {
+    let mut seen = HashSet::new();
+    let mut names = groups
+        .iter()
+        .flat_map(|group| group.rows)
+        .map(|row| row.name.as_str());
+    names.find(|name| !seen.insert(*name))
 }
 
 /// The powers of ten between which all values lie.

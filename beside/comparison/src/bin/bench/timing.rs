@@ -11,7 +11,7 @@ use std::thread;
 use std::time::{Duration, Instant};
 
 use crate::cases::{Case, Swap, Work};
-use crate::ledgers::script;
+use crate::ledgers::{MAKING, script};
 
 /// Nanoseconds, and how far off they may be.
 #[derive(Clone, Copy, Default)]
@@ -32,6 +32,14 @@ impl Cost {
             value: self.value + other.value,
             error: self.error.hypot(other.error),
         }
+    }
+
+    /// One without the other.
+    fn less(self, other: Self) -> Self {
+        self.plus(Self {
+            value: -other.value,
+            ..other
+        })
     }
 
     fn times(self, by: f64) -> Self {
@@ -120,8 +128,24 @@ impl Program {
         }
     }
 
-    /// The call made many times by `repeat`, less the call made once.
+    /// A turn of a `repeat`, less what the programs do before each to fill the lent list anew.
     fn repeated(&self, setup: &str, call: &str) -> io::Result<Cost> {
+        let turn = self.turn(setup, call)?;
+        match call.split_once(" lent ") {
+            Some((_, lent)) => Ok(turn.less(self.filling(lent)?)),
+            None => Ok(turn),
+        }
+    }
+
+    /// A list of so many words filled, by a reading that finds nothing to write: with the list, less the same with none.
+    fn filling(&self, lent: &str) -> io::Result<Cost> {
+        let (setup, call) = (format!("{MAKING}\n"), "unstamped_departures");
+        let with = self.turn(&setup, &format!("{call} lent {lent}"))?;
+        Ok(with.less(self.turn(&setup, call)?))
+    }
+
+    /// The call made many times by `repeat`, less the call made once.
+    fn turn(&self, setup: &str, call: &str) -> io::Result<Cost> {
         let made = |times: u64| format!("{setup}repeat {times}\n{call}\n");
         if let Some(cost) = self.known.borrow().get(&made(1)) {
             return Ok(*cost);

@@ -12,11 +12,11 @@ const SPLIT: u64 = 36;
 const RELEASED: u64 = 300;
 const CLOSED: u64 = 310;
 
-/// The block with its text taken out; and as lines, with how many calls it has.
+/// The block with its text taken out; and as lines, with a name of its own.
 pub struct Block {
     pub case: Case,
+    pub name: String,
     pub lines: String,
-    pub calls: usize,
 }
 
 /// A quiet block, and one after a split, when each executed entry has to be held against 32 departures.
@@ -24,12 +24,12 @@ pub fn blocks() -> [Block; 2] {
     let quiet = "a block's calls, without their text";
     let split = "a block's calls after a split, without their text";
     [
-        block(quiet, STANDING, &standing()),
-        block(split, SPLIT, &after_a_split()),
+        block(quiet, "", STANDING, &standing()),
+        block(split, " after a split", SPLIT, &after_a_split()),
     ]
 }
 
-fn block(name: &'static str, entries: u64, setup: &[String]) -> Block {
+fn block(bare: &'static str, when: &str, entries: u64, setup: &[String]) -> Block {
     let with: Vec<String> = arrive(Entry::taken_in)
         .chain(changes(RELEASED, CLOSED))
         .collect();
@@ -38,10 +38,10 @@ fn block(name: &'static str, entries: u64, setup: &[String]) -> Block {
         .chain(changes(UNKNOWN, UNKNOWN + 10))
         .collect();
     let lines = script(&with);
-    let calls = with.len();
+    let name = format!("a block of {} calls{when}, as lines", with.len());
     let swap = Swap::of_all(with, without);
-    let case = Case::swapped(name, entries, setup, swap).pictured();
-    Block { case, lines, calls }
+    let case = Case::swapped(bare, entries, setup, swap).pictured();
+    Block { case, name, lines }
 }
 
 /// Legs that stay open, cores that ask, and whole entries that were executed, whose first routes' shards have gone.

@@ -5,9 +5,9 @@ use mathlib.Core.Path.{_≡_, refl, sym, ap, _∙_}
 use native.Mathlib.Omega.{arith}
 use lib.Dec.{eqb}
 use lib.ListN.{length, take, drop, getD}
-use borrow.Author.Tests.{eq-eqb, ne-eqb}
 use Rattle.lists.specs.Lists.{has, at, self}
 use Rattle.lists.proofs.Loops.{any-hit, any-miss, any-end}
+use Rattle.types.specs.Transactions.{numberOf}
 use Rattle.batches.specs.Abandoned.{transactions}
 use Rattle.batches.proofs.Counting.{transactions-length, transaction-at}
 use borrow.Author.Needs.{needs}
@@ -32,14 +32,17 @@ loop-holds c = (search needs, refl)
 group-transaction-requires : tie.Need-group-transaction-requires Inv-loop μ-loop
 group-transaction-requires c κs = search needs
 
+is-requires : tie.Need-is-requires Inv-loop μ-loop
+is-requires c κs = search needs
+
 returns : tie.Need-returns Inv-loop μ-loop
 returns c =
-    let g = c .before .before .before in
+    let g = c .before .before in
     let l = g .before .before .loop in
     let s = g .before .before .before .before in
     let ts = transactions (s .args .words .now) in
     let many : s .args .n ≤ length ts = omega (arith, s .pre .1, transactions-length (s .args .words .now) (s .pre .0)) in
-    sym (sym (l .inv .1) ∙ any-hit (at self (s .args .tx .0)) 0 ts (l .i) (s .args .n) (omega arith) many (eq-eqb _ _ (sym (other g) ∙ c .if1 .taken)))
+    sym (sym (l .inv .1) ∙ any-hit (at self (numberOf (s .args .tx))) 0 ts (l .i) (s .args .n) (omega arith) many (ap (λ x. eqb x (numberOf (s .args .tx))) (sym (other g)) ∙ sym (c .before .is .ensures) ∙ c .if1 .taken))
 
 add-i : tie.Need-add-i Inv-loop μ-loop
 add-i c = search needs
@@ -49,19 +52,19 @@ loop-less c = search needs
 
 loop-again : tie.Need-loop-again Inv-loop μ-loop
 loop-again c =
-    let g = c .before .before .before in
+    let g = c .before .before in
     let l = g .before .before .loop in
     let s = g .before .before .before .before in
     let ts = transactions (s .args .words .now) in
     let many : s .args .n ≤ length ts = omega (arith, s .pre .1, transactions-length (s .args .words .now) (s .pre .0)) in
-    (search needs, any-miss (at self (s .args .tx .0)) 0 ts (l .i) (s .args .n) (omega arith) many (ap (λ x. eqb x (s .args .tx .0)) (sym (other g)) ∙ ne-eqb _ _ (c .if1 .left)) ∙ l .inv .1)
+    (search needs, any-miss (at self (numberOf (s .args .tx))) 0 ts (l .i) (s .args .n) (omega arith) many (ap (λ x. eqb x (numberOf (s .args .tx))) (sym (other g)) ∙ sym (c .before .is .ensures) ∙ c .if1 .left) ∙ l .inv .1)
 
 returns-2 : tie.Need-returns-2 Inv-loop μ-loop
 returns-2 c =
     let l = c .before .loop in
     let s = c .before .before .before in
     let ts = transactions (s .args .words .now) in
-    sym (sym (l .inv .1) ∙ any-end (at self (s .args .tx .0)) ts (l .i) (s .args .n) (c .loop-test .left) (omega (arith, s .pre .1, transactions-length (s .args .words .now) (s .pre .0))))
+    sym (sym (l .inv .1) ∙ any-end (at self (numberOf (s .args .tx))) ts (l .i) (s .args .n) (c .loop-test .left) (omega (arith, s .pre .1, transactions-length (s .args .words .now) (s .pre .0))))
 
 pub is-among-spec : {M : Type 1} → statement M
 is-among-spec =
@@ -71,6 +74,7 @@ is-among-spec =
     μ-loop
     loop-holds
     group-transaction-requires
+    is-requires
     returns
     add-i
     loop-less

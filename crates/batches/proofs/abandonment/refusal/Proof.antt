@@ -20,7 +20,7 @@ timed : (c : tie.Else2) → recordTimed (c .before .before .before .before .befo
 timed c = sym (c .before .record-timed .ensures) ∙ not-false _ (c .if2 .left)
 
 placed : (c : tie.Else3) → isShard (recordShard (c .before .before .before .before .before .before .before .before .args .words .now)) ≡ true
-placed c = ap isShard (sym (c .before .before .word-at .ensures)) ∙ sym (c .before .is-shard .ensures) ∙ not-false _ (c .if3 .left)
+placed c = ap isShard (sym (c .before .before .record-shard .ensures)) ∙ sym (c .before .is-shard .ensures) ∙ not-false _ (c .if3 .left)
 
 record-formed-requires : tie.Need-record-formed-requires
 record-formed-requires c κs = search needs
@@ -38,8 +38,8 @@ returns-2 c =
     let t : recordTimed (c .before .before .before .before .before .args .words .now) ≡ false = sym (c .before .record-timed .ensures) ∙ not-true _ (c .if2 .taken) in
     rw (formed (c .before .before), t)
 
-word-at-requires : tie.Need-word-at-requires
-word-at-requires c κs = search needs
+record-shard-requires : tie.Need-record-shard-requires
+record-shard-requires c κs = search needs
 
 is-shard-requires : tie.Need-is-shard-requires
 is-shard-requires c κs = search needs
@@ -48,7 +48,7 @@ returns-3 : tie.Need-returns-3
 returns-3 c =
     let e = c .before .before .before in
     let s : isShard (recordShard (e .before .before .before .before .before .args .words .now)) ≡ false =
-    ap isShard (sym (c .before .before .word-at .ensures)) ∙ sym (c .before .is-shard .ensures) ∙ not-true _ (c .if3 .taken) in
+    ap isShard (sym (c .before .before .record-shard .ensures)) ∙ sym (c .before .is-shard .ensures) ∙ not-true _ (c .if3 .taken) in
     rw (formed (e .before .before), timed e, s)
 
 count-new-requires : tie.Need-count-new-requires
@@ -79,7 +79,7 @@ refusal-spec =
     returns
     record-timed-requires
     returns-2
-    word-at-requires
+    record-shard-requires
     is-shard-requires
     returns-3
     count-new-requires

@@ -7,13 +7,15 @@ use mathlib.Core.Bool.{true}
 use mathlib.Core.List.{List}
 use mathlib.Core.Logic.{_⊎_, inl, inr}
 use native.Mathlib.Omega.{arith}
-use Rattle.rules.specs.Words.{word, lineCount, finalizationFormed}
+use Rattle.rules.specs.Words.{lineCount, finalizationFormed}
+use Rattle.types.specs.Transactions.{numberOf}
+use Rattle.words.specs.Lines.{IsLine}
 use Rattle.words.proofs.Lines.{Finalized, finalized}
 use Rattle.ledger.specs.declared.Ledger.{Ledger}
-use Rattle.ledger.proofs.Lift.{AtSlot, found-at}
+use Rattle.ledger.proofs.Places.{AtSlot, found-at}
 use Rattle.batches.specs.declared.finalization.Ruling.the-variants.{Skip, Refused}
-use Rattle.batches.proofs.Going.{Going, starts, turning, goes-on}
-use Rattle.batches.proofs.Resolving.{Resolving, resolving, formed, resolves, line-unknown, line-leave, line-resolve, line-release}
+use Rattle.ledger.proofs.Doing.{Going, starts, turning, goes-on}
+use Rattle.batches.proofs.Resolving.{Resolving, resolving, released-few, formed, resolves, line-unknown, line-leave, line-resolve, line-release}
 use borrow.Author.Needs.{needs}
 use Rattle.batches.proofs.finalization.release_resolved.Statement.{statement}
 use Rattle.batches.proofs.finalization.release_resolved.Tie as tie
@@ -49,10 +51,12 @@ stands c =
       so = c .before .loop .inv .goes (t .0);
     }
 
--- the transaction was found
-there : (c : tie.After-k Inv-loop μ-loop) → AtSlot (c .before .before .before .before .before .before .before .loop .ledger)
-    (word (2 + c .before .before .before .before .before .before .before .loop .i) (c .before .before .before .before .before .before .before .before .before .before .before .args .words .now))
-    (c .k .given .0 .0)
+-- the line in hand is the i-th
+line : (c : tie.After-line-at Inv-loop μ-loop) → IsLine (c .before .before .before .before .before .before .args .words .now) (c .before .before .loop .i) (c .line-at .result)
+line c = c .line-at .ensures
+
+-- its transaction was found
+there : (c : tie.After-k Inv-loop μ-loop) → AtSlot (c .before .before .before .before .before .before .before .loop .ledger) (numberOf (c .before .before .before .before .before .line-at .result .tx)) (c .k .given .0 .0)
 there c =
     let w = c .before .before .before .before .before .before in
     found-at (w .before .loop .ledger) (stands w .so .held) _ (c .k .given .0 .0) (sym (c .before .before .find .ensures) ∙ c .k .given .1)
@@ -70,9 +74,10 @@ leaves c q =
     let s = w .before .before in
     let a = s .before .before .before .args in
     let k = c .before .before .before .before .before in
+    let x = k .before .before .before .before .before in
     goes-on (s .before .refusal .result) (a .t1) _ _ _ (stands w .none)
-    (line-leave (a .t1) (a .words .now) (stands w .formed) (o .ledger) (o .released) (o .i) (stands w .so) (stands w .line) (k .k .given .0 .0) _
-    (sym (k .before .before .find .ensures) ∙ k .k .given .1) (s .items-of .result) (stands w .lines) (c .rule .result) (c .rule .ensures) q)
+    (line-leave (a .t1) (a .words .now) (o .ledger) (o .released) (o .i) (stands w .so) _ (line x .next) (k .k .given .0 .0) _
+    (sym (k .before .before .find .ensures) ∙ k .k .given .1) (line x .coded) (c .rule .result) (c .rule .ensures) q)
 
 refusal-requires : tie.Need-refusal-requires Inv-loop μ-loop
 refusal-requires c κs = search needs
@@ -85,26 +90,8 @@ loop-holds c =
     let s = c .before .before .before in
     starts (c .before .refusal .result) (s .args .t1) _ (λ _. resolving (s .args .t1) (s .args .words .now) (s .pre))
 
-add-code : tie.Need-add-code Inv-loop μ-loop
-add-code c = omega (arith, stands c)
-
-mul-code : tie.Need-mul-code Inv-loop μ-loop
-mul-code c = omega (arith, stands c)
-
-shared-slice-read-code : tie.Need-shared-slice-read-code Inv-loop μ-loop
-shared-slice-read-code c = omega (arith, stands (c .before))
-
-add-code-2 : tie.Need-add-code-2 Inv-loop μ-loop
-add-code-2 c = omega (arith, stands (c .before))
-
-add-code-3 : tie.Need-add-code-3 Inv-loop μ-loop
-add-code-3 c = omega (arith, stands (c .before))
-
-mul-code-2 : tie.Need-mul-code-2 Inv-loop μ-loop
-mul-code-2 c = omega (arith, stands (c .before))
-
-shared-slice-read-code-2 : tie.Need-shared-slice-read-code-2 Inv-loop μ-loop
-shared-slice-read-code-2 c = omega (arith, stands (c .before .before))
+line-at-requires : tie.Need-line-at-requires Inv-loop μ-loop
+line-at-requires c κs = (stands c .formed, stands c .line)
 
 add-i : tie.Need-add-i Inv-loop μ-loop
 add-i c = omega (arith, stands (c .before .before))
@@ -128,7 +115,7 @@ loop-again c =
     let s = w .before .before in
     let a = s .before .before .before .args in
     goes-on (s .before .refusal .result) (a .t1) _ _ _ (stands w .none)
-    (line-unknown (a .t1) (a .words .now) (stands w .formed) (o .ledger) (o .released) (o .i) (stands w .so) (stands w .line)
+    (line-unknown (a .t1) (a .words .now) (o .ledger) (o .released) (o .i) (stands w .so) _ (line (c .before .before .before .before .before) .next)
     (sym (c .before .before .find .ensures) ∙ c .enum-told .given .1))
 
 mul-slot : tie.Need-mul-slot Inv-loop μ-loop
@@ -161,8 +148,8 @@ enum-told-3 c = search needs
 resolve-requires : tie.Need-resolve-requires Inv-loop μ-loop
 resolve-requires c κs = there (c .before .before .before .before .before .before .before) .fits _
 
-mul-t32 : tie.Need-mul-t32 Inv-loop μ-loop
-mul-t32 c = omega (arith, there (c .before .before .before .before .before .before .before .before) .slot)
+mul-t28 : tie.Need-mul-t28 Inv-loop μ-loop
+mul-t28 c = omega (arith, there (c .before .before .before .before .before .before .before .before) .slot)
 
 element-set-from-ledger : tie.Need-element-set-from-ledger Inv-loop μ-loop
 element-set-from-ledger c = there (c .before .before .before .before .before .before .before .before) .slot
@@ -178,8 +165,8 @@ loop-again-3 c =
     let a = s .before .before .before .args in
     let k = c .before .before .before .before .before .before .before .before in
     goes-on (s .before .refusal .result) (a .t1) _ _ _ (stands w .none)
-    (line-resolve (a .t1) (a .words .now) (stands w .formed) (o .ledger) (o .released) (o .i) (stands w .so) (stands w .line) (k .k .given .0 .0) _
-    (sym (k .before .before .find .ensures) ∙ k .k .given .1) (s .items-of .result) (stands w .lines) (c .before .before .before .rule .result) (c .before .before .before .rule .ensures) (c .before .enum-told3 .given .1) (c .resolve .result) (c .resolve .ensures))
+    (line-resolve (a .t1) (a .words .now) (o .ledger) (o .released) (o .i) (stands w .so) _ (line (k .before .before .before .before .before) .next) (k .k .given .0 .0) _
+    (sym (k .before .before .find .ensures) ∙ k .k .given .1) (line (k .before .before .before .before .before) .coded) (c .before .before .before .rule .result) (c .before .before .before .rule .ensures) (c .before .enum-told3 .given .1) (c .resolve .result) (c .resolve .ensures))
 
 enum-told-4 : tie.Need-enum-told-4 Inv-loop μ-loop
 enum-told-4 c = search needs
@@ -191,7 +178,9 @@ without-requires : tie.Need-without-requires Inv-loop μ-loop
 without-requires c κs = stands (c .before .before .before .before .before .before .before .before .before .before .before .before .before .before .before) .so .held .issuers .sound
 
 add-released : tie.Need-add-released Inv-loop μ-loop
-add-released c = omega (arith, stands (c .before .before .before .before .before .before .before .before .before .before .before .before .before .before .before .before) .so .few, stands (c .before .before .before .before .before .before .before .before .before .before .before .before .before .before .before .before))
+add-released c =
+    let w = c .before .before .before .before .before .before .before .before .before .before .before .before .before .before .before .before in
+    omega (arith, released-few _ _ _ _ _ (stands w .formed) (stands w .so), stands w)
 
 loop-less-4 : tie.Need-loop-less-4 Inv-loop μ-loop
 loop-less-4 c = omega (arith, stands (c .before .before .before .before .before .before .before .before .before .before .before .before .before .before .before .before))
@@ -204,8 +193,8 @@ loop-again-4 c =
     let a = s .before .before .before .args in
     let k = c .before .before .before .before .before .before .before .before .before .before in
     goes-on (s .before .refusal .result) (a .t1) _ _ _ (stands w .none)
-    (line-release (a .t1) (a .words .now) (stands w .formed) (o .ledger) (o .released) (o .i) (stands w .so) (stands w .line) (k .k .given .0 .0) _
-    (sym (k .before .before .find .ensures) ∙ k .k .given .1) (s .items-of .result) (stands w .lines) (c .before .before .before .before .before .rule .result) (c .before .before .before .before .before .rule .ensures) (c .before .before .before .enum-told4 .given .1) (c .before .remove-at .result) (c .without .result) (c .before .remove-at .ensures) (c .without .ensures))
+    (line-release (a .t1) (a .words .now) (o .ledger) (o .released) (o .i) (stands w .so) _ (line (k .before .before .before .before .before) .next) (k .k .given .0 .0) _
+    (sym (k .before .before .find .ensures) ∙ k .k .given .1) (line (k .before .before .before .before .before) .coded) (c .before .before .before .before .before .rule .result) (c .before .before .before .before .before .rule .ensures) (c .before .before .before .enum-told4 .given .1) (c .before .remove-at .result) (c .without .result) (c .before .remove-at .ensures) (c .without .ensures))
 
 enum-told-5 : tie.Need-enum-told-5 Inv-loop μ-loop
 enum-told-5 c = search needs
@@ -233,13 +222,7 @@ release-resolved-spec =
     refusal-requires
     items-of-requires
     loop-holds
-    add-code
-    mul-code
-    shared-slice-read-code
-    add-code-2
-    add-code-3
-    mul-code-2
-    shared-slice-read-code-2
+    line-at-requires
     add-i
     find-requires
     enum-known-k
@@ -256,7 +239,7 @@ release-resolved-spec =
     loop-again-2
     enum-told-3
     resolve-requires
-    mul-t32
+    mul-t28
     element-set-from-ledger
     loop-less-3
     loop-again-3

@@ -19,7 +19,7 @@ decide-requires c κs = search needs
 returns : tie.Need-returns
 unfolding plainEntry
 returns c =
-    c .decide .ensures ∙ ap₂ (ruledBy (c .before .before .before .before .args .code)) (c .before .before .is-open .ensures) (c .before .is-owing .ensures)
+    c .decide .ensures ∙ ap₂ (ruledBy (c .before .before .before .before .args .line .code)) (c .before .before .is-open .ensures) (c .before .is-owing .ensures)
 
 pub rule-spec : {M : Type 1} → statement M
 rule-spec = tie.close (tie.spec is-open-requires is-owing-requires decide-requires returns)

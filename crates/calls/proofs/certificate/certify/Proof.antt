@@ -2,21 +2,22 @@
 -- Assumes nothing.
 use Prim.Native.Nat.{_≤_, _%_}
 use mathlib.Core.Path.{_≡_, sym, _∙_}
+use Rattle.types.specs.Transactions.{numberOf}
 use native.Mathlib.Omega.{arith}
 use borrow.Author.Needs.{needs}
-use Rattle.ledger.proofs.Lift.{AtSlot, found-at}
+use Rattle.ledger.proofs.Places.{AtSlot, found-at}
 use Rattle.calls.proofs.Single.{certify-code, certify-unknown, certify-owed}
 use Rattle.calls.proofs.certificate.certify.Statement.{statement}
 use Rattle.calls.proofs.certificate.certify.Tie as tie
 
 -- the transaction was found
-there : (c : tie.After-k) → AtSlot (c .before .before .before .before .before .args .t1) (c .before .before .before .before .before .args .tx .0) (c .k .given .0 .0)
+there : (c : tie.After-k) → AtSlot (c .before .before .before .before .before .args .t1) (numberOf (c .before .before .before .before .before .args .tx)) (c .k .given .0 .0)
 there c =
     let s = c .before .before .before .before .before in
-    found-at (s .args .t1) (s .pre) (s .args .tx .0) (c .k .given .0 .0) (sym (c .before .before .find .ensures) ∙ c .k .given .1)
+    found-at (s .args .t1) (s .pre) (numberOf (s .args .tx)) (c .k .given .0 .0) (sym (c .before .before .find .ensures) ∙ c .k .given .1)
 
 returns : tie.Need-returns
-returns c = let s = c .before in certify-code (s .args .t1) (s .pre) (s .args .tx .0) (s .args .code) (omega arith)
+returns c = let s = c .before in certify-code (s .args .t1) (s .pre) (numberOf (s .args .tx)) (s .args .code) (omega arith)
 
 find-requires : tie.Need-find-requires
 find-requires c κs = search needs
@@ -30,7 +31,7 @@ enum-told c = search needs
 returns-3 : tie.Need-returns-3
 returns-3 c =
     let s = c .before .before .before .before .before in
-    certify-unknown (s .args .t1) (s .pre) (s .args .tx .0) (s .args .code) (omega arith) (sym (c .before .before .find .ensures) ∙ c .enum-told .given .1)
+    certify-unknown (s .args .t1) (s .pre) (numberOf (s .args .tx)) (s .args .code) (omega arith) (sym (c .before .before .find .ensures) ∙ c .enum-told .given .1)
 
 mul-slot : tie.Need-mul-slot
 mul-slot c = omega (arith, there (c .before) .place, c .before .before .before .before .before .before .pre .roster .room)
@@ -62,7 +63,7 @@ returns-2 c =
     let s = k .before .before .before .before .before in
     let small : s .args .code ≤ 2 = omega arith in
     let same : s .args .code % 256 ≡ s .args .code = omega arith in
-    certify-owed (s .args .t1) (s .pre) (s .args .tx .0) (s .args .code) small (k .k .given .0 .0) _ (c .«with-certificate» .result)
+    certify-owed (s .args .t1) (s .pre) (numberOf (s .args .tx)) (s .args .code) small (k .k .given .0 .0) _ (c .«with-certificate» .result)
     (sym (k .before .before .find .ensures) ∙ k .k .given .1) (rw same at (c .«with-certificate» .ensures))
 
 pub certify-spec : {M : Type 1} → statement M

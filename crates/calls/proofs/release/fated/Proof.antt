@@ -1,19 +1,20 @@
 -- `fated` meets its contract: a leg is let go where the roster has it, and all else stays.
 -- Assumes nothing.
 use mathlib.Core.Path.{sym, _∙_}
+use Rattle.types.specs.Transactions.{numberOf}
 use native.Mathlib.Omega.{arith}
 use borrow.Author.Needs.{needs}
 use Rattle.entry.specs.Entry.{plainEntry}
-use Rattle.ledger.proofs.Lift.{AtSlot, found-at}
+use Rattle.ledger.proofs.Places.{AtSlot, found-at}
 use Rattle.calls.proofs.Single.{fated-unknown, fated-other, fated-leg}
 use Rattle.calls.proofs.release.fated.Statement.{statement}
 use Rattle.calls.proofs.release.fated.Tie as tie
 
 -- the transaction was found
-there : (c : tie.After-k) → AtSlot (c .before .before .before .before .args .t1) (c .before .before .before .before .args .tx .0) (c .k .given .0 .0)
+there : (c : tie.After-k) → AtSlot (c .before .before .before .before .args .t1) (numberOf (c .before .before .before .before .args .tx)) (c .k .given .0 .0)
 there c =
     let s = c .before .before .before .before in
-    found-at (s .args .t1) (s .pre) (s .args .tx .0) (c .k .given .0 .0) (sym (c .before .before .find .ensures) ∙ c .k .given .1)
+    found-at (s .args .t1) (s .pre) (numberOf (s .args .tx)) (c .k .given .0 .0) (sym (c .before .before .find .ensures) ∙ c .k .given .1)
 
 find-requires : tie.Need-find-requires
 find-requires c κs = search needs
@@ -27,7 +28,7 @@ enum-told c = search needs
 returns-3 : tie.Need-returns-3
 returns-3 c =
     let s = c .before .before .before .before in
-    fated-unknown (s .args .t1) (s .pre) (s .args .tx .0) (sym (c .before .before .find .ensures) ∙ c .enum-told .given .1)
+    fated-unknown (s .args .t1) (s .pre) (numberOf (s .args .tx)) (sym (c .before .before .find .ensures) ∙ c .enum-told .given .1)
 
 mul-slot : tie.Need-mul-slot
 mul-slot c = omega (arith, there (c .before) .place, c .before .before .before .before .before .pre .roster .room)
@@ -49,7 +50,7 @@ unfolding plainEntry
 returns-2 c =
     let k = c .before .before .before .before .before in
     let s = k .before .before .before .before in
-    fated-other (s .args .t1) (s .pre) (s .args .tx .0) (k .k .given .0 .0) _ (sym (k .before .before .find .ensures) ∙ k .k .given .1)
+    fated-other (s .args .t1) (s .pre) (numberOf (s .args .tx)) (k .k .given .0 .0) _ (sym (k .before .before .find .ensures) ∙ k .k .given .1)
     (sym (c .before .is-leg .ensures) ∙ c .if1 .left)
 
 remove-at-requires : tie.Need-remove-at-requires
@@ -66,7 +67,7 @@ returns c =
     let e = c .before .before .before in
     let k = e .before .before .before .before .before in
     let s = k .before .before .before .before in
-    fated-leg (s .args .t1) (s .pre) (s .args .tx .0) (k .k .given .0 .0) _ (sym (k .before .before .find .ensures) ∙ k .k .given .1)
+    fated-leg (s .args .t1) (s .pre) (numberOf (s .args .tx)) (k .k .given .0 .0) _ (sym (k .before .before .find .ensures) ∙ k .k .given .1)
     (sym (e .before .is-leg .ensures) ∙ e .if1 .taken) (c .before .remove-at .result) (c .without .result) (c .before .remove-at .ensures) (c .without .ensures)
 
 pub fated-spec : {M : Type 1} → statement M

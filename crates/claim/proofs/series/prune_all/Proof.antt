@@ -25,6 +25,19 @@ abbrev μ-loop : tie.MeasureT-loop
 next-fits : (c : tie.After-clock-at Inv-loop μ-loop) → Fits w64 (c .before .before .loop .i + 1)
 next-fits c = search needs
 
+-- the places of its two numbers
+twice-fits : (c : tie.After-clock-at Inv-loop μ-loop) → Fits w64 (2 * c .before .before .loop .i)
+twice-fits c = search needs
+
+place-fits : (c : tie.After-clock-at Inv-loop μ-loop) → Fits w64 (2 * c .before .before .loop .i * 8)
+place-fits c = search needs
+
+after-fits : (c : tie.After-clock-at Inv-loop μ-loop) → Fits w64 (2 * c .before .before .loop .i + 1)
+after-fits c = search needs
+
+second-fits : (c : tie.After-clock-at Inv-loop μ-loop) → Fits w64 ((2 * c .before .before .loop .i + 1) * 8)
+second-fits c = search needs
+
 -- what the prune of a turn says, its clock being a time and its list long enough
 turn : (c : tie.After-prune Inv-loop μ-loop) →
     let l = c .before .before .before .before .loop in
@@ -65,23 +78,29 @@ part-prune-end c = search needs
 prune-requires : tie.Need-prune-requires Inv-loop μ-loop
 prune-requires c κs = search needs
 
+element-copy-out-reported : tie.Need-element-copy-out-reported Inv-loop μ-loop
+element-copy-out-reported c = search needs
+
+element-copy-out-gone : tie.Need-element-copy-out-gone Inv-loop μ-loop
+element-copy-out-gone c = search needs
+
 mul-counts : tie.Need-mul-counts Inv-loop μ-loop
-mul-counts c = search needs
+mul-counts c = twice-fits (c .before .before .before .before .before .before)
 
 mul-counts-2 : tie.Need-mul-counts-2 Inv-loop μ-loop
-mul-counts-2 c = search needs
+mul-counts-2 c = place-fits (c .before .before .before .before .before .before)
 
 slice-write-counts : tie.Need-slice-write-counts Inv-loop μ-loop
 slice-write-counts c = search needs
 
 mul-counts-3 : tie.Need-mul-counts-3 Inv-loop μ-loop
-mul-counts-3 c = search needs
+mul-counts-3 c = twice-fits (c .before .before .before .before .before .before)
 
 add-counts : tie.Need-add-counts Inv-loop μ-loop
-add-counts c = search needs
+add-counts c = after-fits (c .before .before .before .before .before .before)
 
 mul-counts-4 : tie.Need-mul-counts-4 Inv-loop μ-loop
-mul-counts-4 c = search needs
+mul-counts-4 c = second-fits (c .before .before .before .before .before .before)
 
 slice-write-counts-2 : tie.Need-slice-write-counts-2 Inv-loop μ-loop
 slice-write-counts-2 c = simp length-set (omega arith)
@@ -91,29 +110,29 @@ either-requires c κs = search needs
 
 add-fallen : tie.Need-add-fallen Inv-loop μ-loop
 add-fallen c =
-    let q = c .before .before .before .before .before in
+    let q = c .before .before .before .before .before .before in
     let t = turn q in
     let l = q .before .before .before .before .loop in
     omega (arith, t .few, t .size, l .inv .few, l .inv .fits)
 
 add-written : tie.Need-add-written Inv-loop μ-loop
 add-written c =
-    let q = c .before .before .before .before .before in
+    let q = c .before .before .before .before .before .before in
     let t = turn q in
     let l = q .before .before .before .before .loop in
     omega (arith, t .few, t .size, l .inv .few, l .inv .fits)
 
 add-i : tie.Need-add-i Inv-loop μ-loop
-add-i c = next-fits (c .before .before .before .before .before .before .before)
+add-i c = next-fits (c .before .before .before .before .before .before .before .before)
 
 loop-less : tie.Need-loop-less Inv-loop μ-loop
 loop-less c = search needs
 
 loop-again : tie.Need-loop-again Inv-loop μ-loop
 loop-again c =
-    let q = c .before .before .before .before .before in
+    let q = c .before .before .before .before .before .before in
     let l = q .before .before .before .before .loop in
-    going-on _ _ _ _ _ _ _ _ _ _ (l .i) _ (l .inv) (omega arith) _ _ _ (turn q) (c .before .either .ensures) (search needs)
+    going-on _ _ _ _ _ _ _ _ _ _ (l .i) _ (l .inv) (omega arith) _ _ _ (turn q) (c .either .ensures) (q .prune .kept .1 .1 .0)
 
 same-length : tie.Need-same-length Inv-loop μ-loop
 same-length c = search needs
@@ -138,6 +157,8 @@ prune-all-spec =
     part-prune-start
     part-prune-end
     prune-requires
+    element-copy-out-reported
+    element-copy-out-gone
     mul-counts
     mul-counts-2
     slice-write-counts

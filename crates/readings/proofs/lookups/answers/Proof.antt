@@ -8,8 +8,9 @@ use lib.Dec.{leb}
 use borrow.Author.Tests.{lt-ltb, le-ltb, leb-true, not-true, not-false}
 use Rattle.lists.proofs.Tests.{and-right}
 use Rattle.rules.specs.Readings.{question}
+use Rattle.types.specs.Transactions.{numberOf}
 use Rattle.ledger.specs.Contents.{contents}
-use Rattle.ledger.proofs.Lift.{found-at, not-found}
+use Rattle.ledger.proofs.Places.{found-at, not-found}
 use Rattle.readings.proofs.Looked.{refuses, passes, says, stops, goes-on, fails, follows, timely}
 use borrow.Author.Needs.{needs}
 use Rattle.readings.proofs.lookups.answers.Statement.{statement}
@@ -38,7 +39,7 @@ is-absent-requires c κs =
     let none : q .question-refusal .result ≡ 0 = omega arith in
     let t = timely (question 0 (s .args .shard .0) 0 (s .args .at .0) (s .args .end .0)) (s .args .«read-at» .0) (sym (q .question-refusal .ensures) ∙ none) in
     let v = s .args .ledger .«core_span» in
-    (t, omega (arith, leb-true v (2 ^ 40) (and-right (leb 1 v) (leb v (2 ^ 40)) (s .pre .good .coreSpan))))
+    (t, omega (arith, leb-true v (2 ^ 40) (and-right (leb 1 v) (leb v (2 ^ 40)) (s .pre .good .frame .coreSpan))))
 
 yes-no-requires : tie.Need-yes-no-requires
 yes-no-requires c κs = search needs
@@ -70,7 +71,7 @@ returns-4 c =
     let q = f .before .before .before .before .before in
     let s = q .before .before in
     let none : q .question-refusal .result ≡ 0 = omega arith in
-    let a = found-at (s .args .ledger) (s .pre) (s .args .tx .0) _ (sym (f .find .ensures) ∙ c .before .enum-told2 .given .1) in
+    let a = found-at (s .args .ledger) (s .pre) (numberOf (s .args .tx)) _ (sym (f .find .ensures) ∙ c .before .enum-told2 .given .1) in
     passes _ _ _ [] [] _ (goes-on _ _ _ (le-ltb _ _ (q .before .if1 .left)) ∙ sym (q .question-refusal .ensures) ∙ none)
     (says _ _ _ _ (c .yes-no2 .ensures) (follows _ _ _ (sym (f .before .before .before .is-absent .ensures) ∙ not-false _ (f .before .before .if3 .left)) (sym (a .known))))
 
@@ -84,7 +85,7 @@ returns-5 c =
     let q = f .before .before .before .before .before in
     let s = q .before .before in
     let none : q .question-refusal .result ≡ 0 = omega arith in
-    let a = not-found (s .args .ledger) (s .pre) (s .args .tx .0) (sym (f .find .ensures) ∙ c .before .enum-told .given .1) in
+    let a = not-found (s .args .ledger) (s .pre) (numberOf (s .args .tx)) (sym (f .find .ensures) ∙ c .before .enum-told .given .1) in
     passes _ _ _ [] [] _ (goes-on _ _ _ (le-ltb _ _ (q .before .if1 .left)) ∙ sym (q .question-refusal .ensures) ∙ none)
     (says _ _ _ _ (c .yes-no3 .ensures) (follows _ _ _ (sym (f .before .before .before .is-absent .ensures) ∙ not-false _ (f .before .before .if3 .left)) (sym (a .known))))
 

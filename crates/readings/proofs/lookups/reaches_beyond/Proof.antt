@@ -6,8 +6,9 @@ use Prim.Native.Nat.{ℕ}
 use mathlib.Core.Bool.{Bool}
 use Rattle.lists.specs.Lists.{filled}
 use Rattle.rules.specs.Plain.{Entry, remote}
+use Rattle.types.specs.Transactions.{numberOf}
 use Rattle.ledger.specs.Contents.{contents}
-use Rattle.ledger.proofs.Lift.{AtSlot, found-at, not-found}
+use Rattle.ledger.proofs.Places.{AtSlot, found-at, not-found}
 use Rattle.readings.proofs.Looked.{answered, unanswered}
 use borrow.Author.Needs.{needs}
 use Rattle.readings.proofs.lookups.reaches_beyond.Statement.{statement}
@@ -33,12 +34,12 @@ unfolding contents
 returns c =
     let s = c .before .before .before .before .before in
     let f = c .before .before .before in
-    unanswered (isBeyond (s .args .t1 .local .0)) (s .args .t1) (s .args .tx .0) _ (not-found (s .args .t1) (s .pre) (s .args .tx .0) (sym (f .find .ensures) ∙ c .before .enum-told .given .1)) (c .yes-no .ensures)
+    unanswered (isBeyond (s .args .t1 .local .0)) (s .args .t1) (numberOf (s .args .tx)) _ (not-found (s .args .t1) (s .pre) (numberOf (s .args .tx)) (sym (f .find .ensures) ∙ c .before .enum-told .given .1)) (c .yes-no .ensures)
 
-there : (c : tie.After-k) → AtSlot (c .before .before .before .before .args .t1) (c .before .before .before .before .args .tx .0) (c .k .given .0 .0)
+there : (c : tie.After-k) → AtSlot (c .before .before .before .before .args .t1) (numberOf (c .before .before .before .before .args .tx)) (c .k .given .0 .0)
 there c =
     let s = c .before .before .before .before in
-    found-at (s .args .t1) (s .pre) (s .args .tx .0) (c .k .given .0 .0) (sym (c .before .before .find .ensures) ∙ c .k .given .1)
+    found-at (s .args .t1) (s .pre) (numberOf (s .args .tx)) (c .k .given .0 .0) (sym (c .before .before .find .ensures) ∙ c .k .given .1)
 
 mul-slot : tie.Need-mul-slot
 mul-slot c = omega (arith, there (c .before) .place, c .before .before .before .before .before .pre .roster .room)
@@ -54,7 +55,7 @@ element-copy-out-e c = there (c .before .before) .slot
 
 reaches-beyond-requires : tie.Need-reaches-beyond-requires
 unfolding contents
-reaches-beyond-requires c κs = (there (c .before .before .before .before) .fits _, c .before .before .before .before .before .before .before .before .pre .good .local)
+reaches-beyond-requires c κs = (there (c .before .before .before .before) .fits _, c .before .before .before .before .before .before .before .before .pre .good .frame .local)
 
 yes-no-requires-2 : tie.Need-yes-no-requires-2
 yes-no-requires-2 c κs = search needs
@@ -64,7 +65,7 @@ unfolding contents
 returns-2 c =
     let k = c .before .before .before .before .before .before in
     let s = k .before .before .before .before in
-    answered (isBeyond (s .args .t1 .local .0)) (s .args .t1) (s .args .tx .0) (k .k .given .0 .0) _ _ _ (there k) (c .yes-no2 .ensures) (c .before .reaches-beyond .ensures)
+    answered (isBeyond (s .args .t1 .local .0)) (s .args .t1) (numberOf (s .args .tx)) (k .k .given .0 .0) _ _ _ (there k) (c .yes-no2 .ensures) (c .before .reaches-beyond .ensures)
 
 pub reaches-beyond-spec : {M : Type 1} → statement M
 reaches-beyond-spec =

@@ -32,27 +32,31 @@ turns-of-requires c κs = search needs
 apply-requires : tie.Need-apply-requires
 apply-requires c κs = search needs
 
-element-write-reply : tie.Need-element-write-reply
-element-write-reply c = search needs
+element-copy-out-put-down : tie.Need-element-copy-out-put-down
+element-copy-out-put-down c = search needs
 
-element-write-reply-2 : tie.Need-element-write-reply-2
-element-write-reply-2 c = search needs
+element-copy-out-put-down-2 : tie.Need-element-copy-out-put-down-2
+element-copy-out-put-down-2 c = search needs
 
-element-write-reply-3 : tie.Need-element-write-reply-3
-element-write-reply-3 c = search needs
+element-copy-out-put-down-3 : tie.Need-element-copy-out-put-down-3
+element-copy-out-put-down-3 c = search needs
+
+put-down-requires : tie.Need-put-down-requires
+put-down-requires c κs = search needs
 
 same-length : tie.Need-same-length
 same-length c = search needs
 
 returns : tie.Need-returns
 returns c =
-    let a = c .before .before .before in
+    let a = c .before .before .before .before .before .before .before .before in
     let f = a .before .before .before .before in
     let s = f .before .before .before .before .before .before .before in
     let n = s .args .line .lent in
     let all : length (take n (s .args .lent .now)) ≡ n = simp length-take (omega (arith, s .pre .0 .1 .words, s .pre .1 .0)) in
     let size : length (f .fill .last .0) ≡ n = f .fill .kept .0 ∙ all in
-    changed (s .args .line) (s .args .numbers .now) _ _ _ (s .args .lent .now) (f .fill .last .0) _ (s .args .reply .now) (a .apply .result) (a .before .turns-of .ensures) (f .fill .ensures) size (a .apply .kept .1 .1 .1 .0 ∙ size) (s .pre .1 .1) (a .apply .ensures)
+    rw (c .before .put-down .ensures)
+    (changed (s .args .line) (s .args .numbers .now) _ _ _ (s .args .lent .now) (f .fill .last .0) _ (a .apply .result) (a .before .turns-of .ensures) (f .fill .ensures) size (a .apply .kept .1 .1 .1 .0 ∙ size) (a .apply .ensures))
 
 pub apply-spec : {M : Type 1} → statement M
 apply-spec =
@@ -66,8 +70,9 @@ apply-spec =
     fill-requires
     turns-of-requires
     apply-requires
-    element-write-reply
-    element-write-reply-2
-    element-write-reply-3
+    element-copy-out-put-down
+    element-copy-out-put-down-2
+    element-copy-out-put-down-3
+    put-down-requires
     same-length
     returns)

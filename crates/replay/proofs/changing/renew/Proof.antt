@@ -1,7 +1,9 @@
 -- `renew` meets its contract: every turn makes the same ledger.
 -- Assumes nothing.
 use borrow.Author.Needs.{needs}
+use mathlib.Core.Path.{ap}
 use mathlib.Core.List.{[]}
+use lib.ListN.{length}
 use Rattle.rules.specs.Calls.{making}
 use Rattle.ledger.specs.Meets.{Meets}
 use Rattle.replay.proofs.Replied.{done-by}
@@ -47,19 +49,22 @@ loop-less c = search needs
 loop-again : tie.Need-loop-again Inv-loop μ-loop
 loop-again c = c .new2 .ensures
 
-element-write-reply : tie.Need-element-write-reply Inv-loop μ-loop
-element-write-reply c = search needs
+element-copy-out-put-down : tie.Need-element-copy-out-put-down Inv-loop μ-loop
+element-copy-out-put-down c = search needs
 
-element-write-reply-2 : tie.Need-element-write-reply-2 Inv-loop μ-loop
-element-write-reply-2 c = search needs
+element-copy-out-put-down-2 : tie.Need-element-copy-out-put-down-2 Inv-loop μ-loop
+element-copy-out-put-down-2 c = search needs
 
-element-write-reply-3 : tie.Need-element-write-reply-3 Inv-loop μ-loop
-element-write-reply-3 c = search needs
+element-copy-out-put-down-3 : tie.Need-element-copy-out-put-down-3 Inv-loop μ-loop
+element-copy-out-put-down-3 c = search needs
+
+put-down-requires : tie.Need-put-down-requires Inv-loop μ-loop
+put-down-requires c κs = search needs
 
 returns : tie.Need-returns Inv-loop μ-loop
 returns c =
-    let s = c .before .before .before .before .before .before .before .before .before in
-    rw (done-by (s .args .reply .now) _ _ _ _ (s .pre)) (c .before .before .loop .inv)
+    let l = c .before .before .before .before .before .before .before .loop in
+    rw (c .before .put-down .ensures, done-by (l .done) (ap length (l .inv .answers))) (l .inv)
 
 pub renew-spec : {M : Type 1} → statement M
 renew-spec =
@@ -78,7 +83,8 @@ renew-spec =
     new-requires-2
     loop-less
     loop-again
-    element-write-reply
-    element-write-reply-2
-    element-write-reply-3
+    element-copy-out-put-down
+    element-copy-out-put-down-2
+    element-copy-out-put-down-3
+    put-down-requires
     returns)

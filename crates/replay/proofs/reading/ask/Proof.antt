@@ -18,7 +18,7 @@ abbrev Inv-loop : tie.InvT-loop
 Inv-loop ledger numbers times said₀ kind count words n list₀ left₀ reply list left =
     (left ≤ left₀)
     × (length list ≡ length list₀)
-    × (length reply ≡ 3)
+    × (length reply ≡ 4)
     × (left < left₀ → Reads (read (readingOf kind words (length list₀)) (contents ledger)) (filled list₀) list (answerBy reply))
 
 abbrev μ-loop : tie.MeasureT-loop

@@ -18,7 +18,7 @@ abbrev μ-loop : tie.MeasureT-loop
 μ-loop n out₀ rest₀ at₀ out rest at = at
 
 loop-holds : tie.Need-loop-holds Inv-loop μ-loop
-loop-holds c = (omega arith, omega arith, omega arith, search needs, unput (c .before .args .out .now) (c .before .args .n) (omega arith))
+loop-holds c = (omega arith, omega arith, omega arith, search needs, unput (c .before .args .out .now) _ (omega arith))
 
 sub-at : tie.Need-sub-at Inv-loop μ-loop
 sub-at c = omega arith
@@ -34,12 +34,12 @@ loop-less c = search needs
 
 loop-again : tie.Need-loop-again Inv-loop μ-loop
 loop-again c =
-    let k : 2 ≤ c .before .before .loop .at = places (c .before .before .loop .rest) (c .before .before .loop .at) (omega arith) (c .before .before .loop .inv .3) in (
+    let k : 2 ≤ c .before .before .loop .at = places _ _ (omega arith) (c .before .before .loop .inv .3) in (
       omega arith,
       omega arith,
       search needs,
-      tenth (c .before .before .loop .rest) (c .before .before .loop .at) (c .before .before .loop .inv .0) (c .before .before .loop .inv .3),
-      more (c .before .before .loop .out) (c .before .before .loop .at) (c .before .before .loop .rest) (c .glyph .result) _ (c .before .before .loop .inv .0) (omega arith) (omega arith) (c .glyph .ensures) (c .before .before .loop .inv .4),
+      tenth _ _ (c .before .before .loop .inv .0) (c .before .before .loop .inv .3),
+      more _ _ _ _ _ (c .before .before .loop .inv .0) (omega arith) (omega arith) (c .glyph .ensures) (c .before .before .loop .inv .4),
     )
 
 sub-at-2 : tie.Need-sub-at-2 Inv-loop μ-loop
@@ -55,7 +55,7 @@ same-length : tie.Need-same-length Inv-loop μ-loop
 same-length c = omega (arith, length-set (c .before .before .loop .out) (c .before .before .loop .at - 1) (c .glyph2 .result))
 
 returns : tie.Need-returns Inv-loop μ-loop
-returns c = (omega arith, last (c .before .before .loop .out) (c .before .before .loop .at) (c .before .before .loop .rest) (c .glyph2 .result) _ (c .before .before .loop .inv .0) (omega arith) (omega arith) (c .glyph2 .ensures) (c .before .before .loop .inv .4))
+returns c = (omega arith, last _ _ _ _ _ (c .before .before .loop .inv .0) (omega arith) (omega arith) (c .glyph2 .ensures) (c .before .before .loop .inv .4))
 
 pub spell-spec : {M : Type 1} → statement M
 spell-spec =

@@ -5,8 +5,8 @@ use borrow.Author.Needs.{needs}
 use Rattle.script.proofs.parts.checked.Statement.{statement}
 use Rattle.script.proofs.parts.checked.Tie as tie
 
-bad-requires : tie.Need-bad-requires
-bad-requires c κs = search needs
+no-call-requires : tie.Need-no-call-requires
+no-call-requires c κs = search needs
 
 returns : tie.Need-returns
 returns c = search needs
@@ -14,14 +14,14 @@ returns c = search needs
 takes-requires : tie.Need-takes-requires
 takes-requires c κs = search needs
 
-bad-requires-2 : tie.Need-bad-requires-2
-bad-requires-2 c κs = search needs
+no-call-requires-2 : tie.Need-no-call-requires-2
+no-call-requires-2 c κs = search needs
 
 returns-2 : tie.Need-returns-2
 returns-2 c = search needs
 
-bad-requires-3 : tie.Need-bad-requires-3
-bad-requires-3 c κs = search needs
+no-call-requires-3 : tie.Need-no-call-requires-3
+no-call-requires-3 c κs = search needs
 
 returns-3 : tie.Need-returns-3
 returns-3 c = search needs
@@ -36,12 +36,12 @@ pub checked-spec : {M : Type 1} → statement M
 checked-spec =
     tie.close
     (tie.spec
-    bad-requires
+    no-call-requires
     returns
     takes-requires
-    bad-requires-2
+    no-call-requires-2
     returns-2
-    bad-requires-3
+    no-call-requires-3
     returns-3
     call-requires
     returns-4)

@@ -22,10 +22,10 @@ no-tail-requires-2 : tie.Need-no-tail-requires-2
 no-tail-requires-2 c κs = search needs
 
 returns-2 : tie.Need-returns-2
-returns-2 c = c .no-tail2 .ensures ∙ lent-over (c .before .before .before .before .before .args .count) (c .before .before .before .n .given .0 .0) (c .before .before .before .before .before .args .n) (c .before .before .before .n .given .1) (c .before .if1 .taken)
+returns-2 c = c .no-tail2 .ensures ∙ lent-over _ _ _ (c .before .before .before .n .given .1) (c .before .if1 .taken)
 
 returns-3 : tie.Need-returns-3
-returns-3 c = lent-fits (c .before .before .before .before .args .count) (c .before .before .n .given .0 .0) (c .before .before .before .before .args .n) (c .before .before .n .given .1) (c .if1 .left)
+returns-3 c = lent-fits _ _ _ (c .before .before .n .given .1) (c .if1 .left)
 
 pub lent-number-spec : {M : Type 1} → statement M
 lent-number-spec =

@@ -1,10 +1,9 @@
 -- `script::parts::tail_of`: The invariant: the tail from here on, behind the numbers so far, is the tail of the whole; the numbers stored, with those to come, are all.
 -- Assumes nothing.
 use native.Mathlib.Omega.{arith}
-use mathlib.Core.Path.{_∙_, sym, refl}
 use Rattle.script.proofs.Grammar.{tail-small, tail-lent, numbers-lent, tail-number, numbers-number, tail-not, tail-many, tail-end, numbers-end, small-of, not-good, stored-number, all-stored, lent-stored}
 use Prim.Native.Nat.{_-_, _≤_}
-use mathlib.Core.Path.{_≡_}
+use mathlib.Core.Path.{_≡_, refl, sym, _∙_}
 use mathlib.Core.List.{_++_}
 use lib.ListN.{length, drop, take}
 use Rattle.script.specs.Grammar.{tailOf, behind, numbersOf}
@@ -49,8 +48,8 @@ same-length c = search needs
 returns : tie.Need-returns Inv-loop μ-loop
 returns c =
     let s = sym (c .before .if1 .taken) ∙ c .before .before .is-lent .ensures in
-    let q = c .with-lent .ensures ∙ sym (tail-lent (c .before .before .before .before .before .before .before .before .before .args .line .now) (c .before .before .before .before .before .before .loop .at) (c .before .before .before .before .token-end .result) (c .before .before .before .before .before .before .loop .count) (c .before .before .before .before .before .loop-test .taken) (c .before .before .before .before .token-end .ensures .2) s) ∙ c .before .before .before .before .before .before .loop .inv .3 in
-    (small-of _ _ q (tail-small 0 _ (omega arith)), (q, lent-stored (c .before .before .before .before .before .before .loop .numbers) _ _ (c .before .before .before .before .before .before .loop .count) _ (c .with-lent .result) (c .with-lent .ensures) (numbers-lent (c .before .before .before .before .before .before .before .before .before .args .line .now) (c .before .before .before .before .before .before .loop .at) (c .before .before .before .before .token-end .result) (c .before .before .before .before .before .before .loop .count) (c .before .before .before .before .before .loop-test .taken) (c .before .before .before .before .token-end .ensures .2) s) (c .before .before .before .before .before .before .loop .inv .4)))
+    let q = c .with-lent .ensures ∙ sym (tail-lent _ _ _ (c .before .before .before .before .before .loop-test .taken) (c .before .before .before .before .token-end .ensures .2) _ s) ∙ c .before .before .before .before .before .before .loop .inv .3 in
+    (small-of _ _ q (tail-small 0 _ (omega arith)), (q, lent-stored _ _ _ _ _ _ (c .with-lent .ensures) (numbers-lent _ _ _ (c .before .before .before .before .before .loop-test .taken) (c .before .before .before .before .token-end .ensures .2) s) (c .before .before .before .before .before .before .loop .inv .4)))
 
 sub-value-of : tie.Need-sub-value-of Inv-loop μ-loop
 sub-value-of c = search needs
@@ -78,7 +77,7 @@ same-length-2 c = search needs
 
 returns-2 : tie.Need-returns-2 Inv-loop μ-loop
 returns-2 c =
-    let q = c .no-tail .ensures ∙ sym (tail-not (c .before .before .before .before .before .before .before .before .before .before .before .before .before .args .line .now) (c .before .before .before .before .before .before .before .before .before .before .loop .at) (c .before .before .before .before .before .before .before .before .token-end .result) (c .before .before .before .before .before .before .before .before .before .before .loop .count) (c .before .before .before .before .before .before .before .before .before .loop-test .taken) (c .before .before .before .before .before .before .before .before .token-end .ensures .2) (sym (c .before .before .before .before .before .if1 .left) ∙ c .before .before .before .before .before .before .is-lent .ensures) (sym (c .before .enum-told .given .1) ∙ c .before .before .before .value-of .ensures)) ∙ c .before .before .before .before .before .before .before .before .before .before .loop .inv .3 in
+    let q = c .no-tail .ensures ∙ sym (tail-not _ _ _ (c .before .before .before .before .before .before .before .before .before .loop-test .taken) (c .before .before .before .before .before .before .before .before .token-end .ensures .2) _ (sym (c .before .before .before .before .before .if1 .left) ∙ c .before .before .before .before .before .before .is-lent .ensures) (sym (c .before .enum-told .given .1) ∙ c .before .before .before .value-of .ensures)) ∙ c .before .before .before .before .before .before .before .before .before .before .loop .inv .3 in
     (small-of _ _ q (tail-small 0 _ (omega arith)), (q, λ g. absurd (not-good _ (c .no-tail .ensures) g)))
 
 no-tail-requires-2 : tie.Need-no-tail-requires-2 Inv-loop μ-loop
@@ -89,7 +88,7 @@ same-length-3 c = search needs
 
 returns-3 : tie.Need-returns-3 Inv-loop μ-loop
 returns-3 c =
-    let q = c .no-tail2 .ensures ∙ sym (tail-many (c .before .before .before .before .before .before .before .before .before .before .before .before .before .before .before .args .line .now) (c .before .before .before .before .before .before .before .before .before .before .before .before .loop .at) (c .before .before .before .before .before .before .before .before .before .before .token-end .result) (c .before .before .before .before .before .before .before .before .before .before .before .before .loop .count) (c .before .before .before .before .before .before .before .before .before .before .before .loop-test .taken) (c .before .before .before .before .before .before .before .before .before .before .token-end .ensures .2) (c .before .before .before .n .given .0 .0) (sym (c .before .before .before .before .before .before .before .if1 .left) ∙ c .before .before .before .before .before .before .before .before .is-lent .ensures) (sym (c .before .before .before .n .given .1) ∙ c .before .before .before .before .before .value-of .ensures) (c .before .if2 .taken)) ∙ c .before .before .before .before .before .before .before .before .before .before .before .before .loop .inv .3 in
+    let q = c .no-tail2 .ensures ∙ sym (tail-many _ _ _ (c .before .before .before .before .before .before .before .before .before .before .before .loop-test .taken) (c .before .before .before .before .before .before .before .before .before .before .token-end .ensures .2) _ _ (sym (c .before .before .before .before .before .before .before .if1 .left) ∙ c .before .before .before .before .before .before .before .before .is-lent .ensures) (sym (c .before .before .before .n .given .1) ∙ c .before .before .before .before .before .value-of .ensures) (c .before .if2 .taken)) ∙ c .before .before .before .before .before .before .before .before .before .before .before .before .loop .inv .3 in
     (small-of _ _ q (tail-small 0 _ (omega arith)), (q, λ g. absurd (not-good _ (c .no-tail2 .ensures) g)))
 
 mul-numbers : tie.Need-mul-numbers Inv-loop μ-loop
@@ -111,8 +110,8 @@ loop-again c =
       omega arith,
       omega arith,
       search needs,
-      sym (tail-number (c .before .before .before .before .before .before .before .before .before .before .before .before .before .before .args .line .now) (c .before .before .before .before .before .before .before .before .before .before .before .loop .at) (c .before .before .before .before .before .before .before .before .before .token-end .result) (c .before .before .before .before .before .before .before .before .before .before .before .loop .count) (c .before .before .before .before .before .before .before .before .before .before .loop-test .taken) (c .before .before .before .before .before .before .before .before .before .token-end .ensures .2) (c .before .before .n .given .0 .0) s n (c .if2 .left)) ∙ c .before .before .before .before .before .before .before .before .before .before .before .loop .inv .3,
-      stored-number (c .before .before .before .before .before .before .before .before .before .before .before .loop .numbers) (c .before .before .before .before .before .before .before .before .before .before .before .loop .count) (c .before .before .n .given .0 .0) _ _ _ (omega arith) (numbers-number (c .before .before .before .before .before .before .before .before .before .before .before .before .before .before .args .line .now) (c .before .before .before .before .before .before .before .before .before .before .before .loop .at) (c .before .before .before .before .before .before .before .before .before .token-end .result) (c .before .before .before .before .before .before .before .before .before .before .before .loop .count) (c .before .before .before .before .before .before .before .before .before .before .loop-test .taken) (c .before .before .before .before .before .before .before .before .before .token-end .ensures .2) (c .before .before .n .given .0 .0) s n) (c .before .before .before .before .before .before .before .before .before .before .before .loop .inv .4),
+      sym (tail-number _ _ _ (c .before .before .before .before .before .before .before .before .before .before .loop-test .taken) (c .before .before .before .before .before .before .before .before .before .token-end .ensures .2) _ _ s n (c .if2 .left)) ∙ c .before .before .before .before .before .before .before .before .before .before .before .loop .inv .3,
+      stored-number (c .before .before .before .before .before .before .before .before .before .before .before .loop .numbers) (c .before .before .before .before .before .before .before .before .before .before .before .loop .count) _ _ _ _ (omega arith) (numbers-number _ _ _ (c .before .before .before .before .before .before .before .before .before .before .loop-test .taken) (c .before .before .before .before .before .before .before .before .before .token-end .ensures .2) _ s n) (c .before .before .before .before .before .before .before .before .before .before .before .loop .inv .4),
     )
 
 same-length-4 : tie.Need-same-length-4 Inv-loop μ-loop
@@ -122,7 +121,7 @@ returns-4 : tie.Need-returns-4 Inv-loop μ-loop
 returns-4 c = (
   (omega arith, omega arith),
   (
-    sym (tail-end (c .before .before .before .before .args .line .now) (c .before .loop .at) (c .before .loop .count) (c .loop-test .left)) ∙ c .before .loop .inv .3,
+    sym (tail-end _ _ _ (c .loop-test .left)) ∙ c .before .loop .inv .3,
     λ g. all-stored (c .before .loop .numbers) _ _ (c .before .loop .count) (numbers-end (c .before .before .before .before .args .line .now) (c .before .loop .at) (c .loop-test .left)) (c .before .loop .inv .4),
   ),
 )

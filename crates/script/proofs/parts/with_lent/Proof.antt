@@ -12,7 +12,7 @@ no-tail-requires : tie.Need-no-tail-requires
 no-tail-requires c κs = search needs
 
 returns : tie.Need-returns
-returns c = c .no-tail .ensures ∙ lent-none (c .before .before .before .args .line .now) (c .before .before .before .args .at) (c .before .before .before .args .count) (omega arith)
+returns c = c .no-tail .ensures ∙ lent-none (c .before .before .before .args .line .now) (c .before .before .before .args .at) _ (omega arith)
 
 add-begin : tie.Need-add-begin
 add-begin c = search needs
@@ -26,7 +26,7 @@ no-tail-requires-2 c κs = search needs
 returns-2 : tie.Need-returns-2
 returns-2 c =
     c .no-tail2 .ensures
-    ∙ lent-several (c .before .before .before .before .before .args .line .now) (c .before .before .before .before .before .args .at) (c .before .before .token-end .result) (c .before .before .before .before .before .args .count) (omega (arith, c .before .before .before .if1 .left)) (c .before .before .token-end .ensures .2) (c .before .if2 .taken)
+    ∙ lent-several _ _ _ _ (omega (arith, c .before .before .before .if1 .left)) (c .before .before .token-end .ensures .2) (c .before .if2 .taken)
 
 sub-value-of : tie.Need-sub-value-of
 sub-value-of c = search needs
@@ -45,8 +45,8 @@ lent-number-requires c κs = search needs
 
 returns-3 : tie.Need-returns-3
 returns-3 c =
-    c .lent-number .ensures ∙ ap (lentNumber (c .before .before .before .before .before .before .before .args .count)) (c .before .value-of .ensures)
-    ∙ lent-one (c .before .before .before .before .before .before .before .args .line .now) (c .before .before .before .before .before .before .before .args .at) (c .before .before .before .before .token-end .result) (c .before .before .before .before .before .before .before .args .count) (omega (arith, c .before .before .before .before .before .if1 .left)) (c .before .before .before .before .token-end .ensures .2) (c .before .before .before .if2 .left)
+    c .lent-number .ensures ∙ ap (lentNumber _) (c .before .value-of .ensures)
+    ∙ lent-one _ _ _ _ (omega (arith, c .before .before .before .before .before .if1 .left)) (c .before .before .before .before .token-end .ensures .2) (c .before .before .before .if2 .left)
 
 pub with-lent-spec : {M : Type 1} → statement M
 with-lent-spec =

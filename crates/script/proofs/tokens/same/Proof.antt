@@ -18,7 +18,7 @@ abbrev μ-loop : tie.MeasureT-loop
 μ-loop a b i₀ i = length a - i
 
 returns : tie.Need-returns Inv-loop μ-loop
-returns c = apart (c .before .args .a .now) (c .before .args .b .now) (c .if1 .taken)
+returns c = apart _ _ (c .if1 .taken)
 
 loop-holds : tie.Need-loop-holds Inv-loop μ-loop
 loop-holds c = (omega arith, c .if1 .left, refl)
@@ -30,7 +30,7 @@ shared-slice-read-if2-2 : tie.Need-shared-slice-read-if2-2 Inv-loop μ-loop
 shared-slice-read-if2-2 c = search needs
 
 returns-2 : tie.Need-returns-2 Inv-loop μ-loop
-returns-2 c = same-off (c .before .before .before .before .before .before .args .a .now) (c .before .before .before .before .before .before .args .b .now) (c .before .before .before .before .loop .i) _ (c .before .before .before .loop-test .taken) (omega arith) (c .if2 .taken) (c .before .before .before .before .loop .inv .2)
+returns-2 c = same-off _ _ _ _ (c .before .before .before .before .loop .inv .2) (c .before .before .before .loop-test .taken) (omega arith) (c .if2 .taken)
 
 add-i : tie.Need-add-i Inv-loop μ-loop
 add-i c = search needs
@@ -40,10 +40,10 @@ loop-less c = search needs
 
 loop-again : tie.Need-loop-again Inv-loop μ-loop
 loop-again c =
-    (omega arith, c .before .before .before .before .loop .inv .1, rw add-one (same-on (c .before .before .before .before .before .before .args .a .now) (c .before .before .before .before .before .before .args .b .now) (c .before .before .before .before .loop .i) _ (c .before .before .before .loop-test .taken) (omega arith) (c .if2 .left) (c .before .before .before .before .loop .inv .2)))
+    (omega arith, c .before .before .before .before .loop .inv .1, rw add-one (same-on _ _ _ _ (c .before .before .before .before .loop .inv .2) (c .before .before .before .loop-test .taken) (omega arith) (c .if2 .left)))
 
 returns-3 : tie.Need-returns-3 Inv-loop μ-loop
-returns-3 c = same-end (c .before .before .before .args .a .now) (c .before .before .before .args .b .now) (c .before .loop .i) _ (c .loop-test .left) (omega arith) (c .before .loop .inv .2)
+returns-3 c = same-end _ _ _ _ (c .before .loop .inv .2) (c .loop-test .left) (omega arith)
 
 pub same-spec : {M : Type 1} → statement M
 same-spec =

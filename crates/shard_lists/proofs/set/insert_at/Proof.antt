@@ -11,7 +11,7 @@ use Rattle.shard_lists.proofs.set.insert_at.Statement.{statement}
 use Rattle.shard_lists.proofs.set.insert_at.Tie as tie
 
 abbrev Inv-loop : tie.InvT-loop
-Inv-loop items₀ n k x i₀ items i = (k ≤ i) × (i ≤ n) × (length items ≡ 264) × (removeAt i items ≡ removeAt n items₀)
+Inv-loop items₀ n k x i₀ items i = (k ≤ i) × (i ≤ n) × (length items ≡ 40) × (removeAt i items ≡ removeAt n items₀)
 
 abbrev μ-loop : tie.MeasureT-loop
 μ-loop items₀ n k x i₀ items i = i

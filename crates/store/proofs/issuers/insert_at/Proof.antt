@@ -7,6 +7,7 @@ use lib.ListN.{length, take}
 use Rattle.lists.specs.Arrays.{removeAt, insertAt}
 use Rattle.lists.proofs.Loops.{hole-down, inserted}
 use Rattle.lists.proofs.Pairs.{zip-take, zip-length, zip-set, zip-move}
+use Rattle.types.specs.Transactions.{numberOf}
 use Rattle.store.specs.Issuers.{made, pair}
 use Rattle.store.proofs.Pairs.{sides, sides-length, sides-front}
 use borrow.Author.Needs.{needs}
@@ -89,14 +90,14 @@ returns c =
     let n = s .args .n in
     let x = made (l .records) (l .transactions) n in
     let x₀ = made (s .args .records .now) (s .args .transactions .now) n in
-    let e = pair (s .args .r .0) (s .args .t .0) in
+    let e = pair (s .args .r .0) (numberOf (s .args .t)) in
     let h : length (sides x) ≡ 384 = zip-length pair (x .records) (x .transactions) (omega arith) ∙ l .inv .2 in
     let h₀ : length (sides x₀) ≡ 384 = sides-length x₀ (s .pre .0) in
     let q : l .i ≡ s .args .k = omega arith in
     record {
       sound = record { room = omega arith; recordLength = search needs; transactionLength = search needs };
       pairs = sym (zip-take pair (n + 1) _ _)
-          ∙ ap (take (n + 1)) (zip-set pair (x .records) (x .transactions) (s .args .k) (s .args .r .0) (s .args .t .0))
+          ∙ ap (take (n + 1)) (zip-set pair (x .records) (x .transactions) (s .args .k) (s .args .r .0) (numberOf (s .args .t)))
           ∙ inserted (sides x₀) (sides x) n (s .args .k) e (omega arith) (omega arith) (omega arith) (rw q at (l .inv .4))
           ∙ ap (insertAt (s .args .k) e) (sides-front x₀);
     }

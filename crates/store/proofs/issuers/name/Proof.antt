@@ -10,6 +10,7 @@ use Rattle.lists.specs.Arrays.{insertAt, rank}
 use Rattle.lists.proofs.Order.{every-include, include-known, length-include-new}
 use Rattle.lists.proofs.Loops.{rank-le, include-rank}
 use Rattle.rules.specs.Index.{Pair, pairKey, names}
+use Rattle.types.specs.Transactions.{numberOf}
 use Rattle.store.specs.declared.issuers.Issuers.{Issuers}
 use Rattle.store.specs.Issuers.{made, pair, pairsIn, isBefore, Holds, Worded}
 use Rattle.store.proofs.Pairs.{pairs-length}
@@ -23,22 +24,22 @@ abbrev whole : tie.Start → Issuers
 whole s = made (s .args .records .now) (s .args .transactions .now) (s .args .n)
 
 abbrev e : tie.Start → Pair
-e s = pair (s .args .r .0) (s .args .t .0)
+e s = pair (s .args .r .0) (numberOf (s .args .t))
 
 abbrev l : tie.Start → List Pair
 l s = pairsIn (whole s)
 
-is-word : (s : tie.Start) → Word (s .args .t .0)
+is-word : (s : tie.Start) → Word (numberOf (s .args .t))
 is-word s = search needs
 
-stands : (s : tie.Start) (r b : Bool) → r ≡ names (l s) (s .args .r .0) (s .args .t .0) → r ≡ b → has pairKey (pairKey (e s)) (l s) ≡ b
-stands s r b h q = has-names (s .args .r .0) (s .args .t .0) (is-word s) (l s) (s .pre .2) ∙ sym h ∙ q
+stands : (s : tie.Start) (r b : Bool) → r ≡ names (l s) (s .args .r .0) (numberOf (s .args .t)) → r ≡ b → has pairKey (pairKey (e s)) (l s) ≡ b
+stands s r b h q = has-names (s .args .r .0) (numberOf (s .args .t)) (is-word s) (l s) (s .pre .2) ∙ sym h ∙ q
 
-put-in : (s : tie.Start) (k : ℕ) (x : Issuers) → has pairKey (pairKey (e s)) (l s) ≡ false → k ≡ rank (isBefore (s .args .r .0) (s .args .t .0)) (l s) →
+put-in : (s : tie.Start) (k : ℕ) (x : Issuers) → has pairKey (pairKey (e s)) (l s) ≡ false → k ≡ rank (isBefore (s .args .r .0) (numberOf (s .args .t))) (l s) →
     Holds (insertAt k (e s) (l s)) x → Holds (include pairKey (e s) (l s)) x × Worded x
 put-in s k x h f o =
     let q : pairsIn x ≡ include pairKey (e s) (l s) = o .pairs
-    ∙ ap (λ i. insertAt i (e s) (l s)) (f ∙ rank-key (s .args .r .0) (s .args .t .0) (is-word s) (l s) (s .pre .2))
+    ∙ ap (λ i. insertAt i (e s) (l s)) (f ∙ rank-key (s .args .r .0) (numberOf (s .args .t)) (is-word s) (l s) (s .pre .2))
     ∙ include-rank pairKey (e s) (l s) h in
     (record { sound = o .sound; pairs = q }, rw q (every-include pairKey OfWord (e s) (l s) (is-word s) (s .pre .2)))
 
@@ -70,7 +71,7 @@ insert-at-requires c κs =
     let s = from b in
     let n = pairs-length (whole s) (s .pre .0) in (
       s .pre .0,
-      omega (arith, n, k .rank .ensures, rank-le (isBefore (s .args .r .0) (s .args .t .0)) (l s)),
+      omega (arith, n, k .rank .ensures, rank-le (isBefore (s .args .r .0) (numberOf (s .args .t))) (l s)),
       omega (arith, n, s .pre .3, length-include-new pairKey (e s) (l s) (new b)),
     )
 

@@ -4,6 +4,7 @@ use Prim.Native.Nat.{_-_, _≤_, _/_, _+_}
 use native.Mathlib.Omega.{arith}
 use Rattle.lists.specs.Arrays.{rank}
 use Rattle.lists.proofs.Loops.{rank-le}
+use Rattle.types.specs.Transactions.{numberOf}
 use Rattle.store.specs.declared.issuers.Issuers.{Issuers}
 use Rattle.store.specs.Issuers.{made, pairsIn, isBefore}
 use Rattle.store.proofs.Pairs.{pairs-length, pairs-told}
@@ -24,13 +25,13 @@ abbrev μ-loop : tie.MeasureT-loop
 abbrev whole : tie.Start Inv-loop μ-loop → Issuers
 whole s = made (s .args .records .now) (s .args .transactions .now) (s .args .n)
 
-is-word : (s : tie.Start Inv-loop μ-loop) → Word (s .args .t .0)
+is-word : (s : tie.Start Inv-loop μ-loop) → Word (numberOf (s .args .t))
 is-word s = search needs
 
 loop-holds : tie.Need-loop-holds Inv-loop μ-loop
 loop-holds c =
     let x = whole c in
-    (omega arith, omega (arith, rank-le (isBefore (c .args .r .0) (c .args .t .0)) (pairsIn x), pairs-length x (c .pre .0)), omega arith)
+    (omega arith, omega (arith, rank-le (isBefore (c .args .r .0) (numberOf (c .args .t))) (pairsIn x), pairs-length x (c .pre .0)), omega arith)
 
 add-mid : tie.Need-add-mid Inv-loop μ-loop
 add-mid c = search needs
@@ -64,8 +65,8 @@ loop-again c =
     let ps = pairsIn x in
     let size = pairs-length x (s .pre .0) in
     let mid = (l .low + l .high) / 2 in
-    let told = pairs-told x (isBefore (s .args .r .0) (s .args .t .0)) mid _ _ (s .pre .0) (omega arith) (c .before .leads .ensures) (c .if1 .taken) in
-    (omega (arith, rank-low (s .args .r .0) (s .args .t .0) (is-word s) ps (s .pre .2) mid (s .pre .1) (omega (arith, size)) told), l .inv .1, l .inv .2)
+    let told = pairs-told x (isBefore (s .args .r .0) (numberOf (s .args .t))) mid _ _ (s .pre .0) (omega arith) (c .before .leads .ensures) (c .if1 .taken) in
+    (omega (arith, rank-low (s .args .r .0) (numberOf (s .args .t)) (is-word s) ps (s .pre .2) mid (s .pre .1) (omega (arith, size)) told), l .inv .1, l .inv .2)
 
 loop-less-2 : tie.Need-loop-less-2 Inv-loop μ-loop
 loop-less-2 c = search needs
@@ -78,8 +79,8 @@ loop-again-2 c =
     let ps = pairsIn x in
     let size = pairs-length x (s .pre .0) in
     let mid = (l .low + l .high) / 2 in
-    let told = pairs-told x (isBefore (s .args .r .0) (s .args .t .0)) mid _ _ (s .pre .0) (omega arith) (c .before .leads .ensures) (c .if1 .left) in
-    (l .inv .0, rank-high (s .args .r .0) (s .args .t .0) (is-word s) ps (s .pre .2) mid (omega (arith, size)) told, omega arith)
+    let told = pairs-told x (isBefore (s .args .r .0) (numberOf (s .args .t))) mid _ _ (s .pre .0) (omega arith) (c .before .leads .ensures) (c .if1 .left) in
+    (l .inv .0, rank-high (s .args .r .0) (numberOf (s .args .t)) (is-word s) ps (s .pre .2) mid (omega (arith, size)) told, omega arith)
 
 returns : tie.Need-returns Inv-loop μ-loop
 returns c = omega arith

@@ -1,7 +1,7 @@
 -- Those that the judgement does not keep are listed, let go and taken out of the index, if there is room for the list.
 -- Assumes nothing.
 use native.Mathlib.Omega.{arith}
-use Rattle.sweeps.specs.Leaving.{having}
+use Rattle.ledger.specs.Contents.{withParts}
 use Rattle.sweeps.proofs.Listing.{closes-short, closes-done}
 use borrow.Author.Needs.{needs}
 use Rattle.sweeps.proofs.closes.apply_closing.Statement.{statement}
@@ -13,7 +13,7 @@ mul-if1 c = search needs
 returns : tie.Need-returns
 returns c l h j =
     let a = c .before .before .before .args in
-    closes-short (having l (a .roster) (a .issuers) (l .departures)) h (a .lent .now) (a .c) j (omega arith)
+    closes-short (withParts l (l .rebuilt) (a .roster) (l .entries) (a .issuers) (l .departures)) h (a .lent .now) (a .c) j (omega arith)
 
 list-closed-requires : tie.Need-list-closed-requires
 list-closed-requires c κs = search needs
@@ -31,7 +31,7 @@ returns-2 : tie.Need-returns-2
 returns-2 c l h j =
     let e = c .before .before .before .before .before .before .before .before .before in
     let a = e .before .before .before .args in
-    closes-done (having l (a .roster) (a .issuers) (l .departures)) h (a .lent .now) (a .c) j (omega arith)
+    closes-done (withParts l (l .rebuilt) (a .roster) (l .entries) (a .issuers) (l .departures)) h (a .lent .now) (a .c) j (omega arith)
     (c .before .retain .result) (c .before .retain .ensures) (c .without-dropped .result) (c .without-dropped .ensures) _ (c .before .before .before .before .list-closed .ensures)
 
 pub apply-closing-spec : {M : Type 1} → statement M

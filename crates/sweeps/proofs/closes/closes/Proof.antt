@@ -6,7 +6,7 @@ use mathlib.Core.Path.{refl, sym, _∙_}
 use native.Mathlib.Omega.{arith}
 use Rattle.store.proofs.Rosters.{slot-within}
 use Rattle.sweeps.specs.Closing.{Judges}
-use Rattle.sweeps.proofs.Several.{here-fits}
+use Rattle.ledger.proofs.Places.{entry-at}
 use Rattle.sweeps.proofs.Listing.{Judging, judge-closed, judge-open, judged-all, count-few, listed-length}
 use borrow.Author.Needs.{needs}
 use Rattle.sweeps.proofs.closes.closes.Statement.{statement}
@@ -53,7 +53,7 @@ is-closed-requires : tie.Need-is-closed-requires Inv-loop μ-loop
 is-closed-requires c κs =
     let b = c .before .before .before .before in
     let s = b .before .before .before .before in
-    here-fits (s .args .t1) (s .pre) (b .loop .i) (omega arith) _
+    entry-at (s .args .t1) (s .pre) (b .loop .i) (omega arith) .fits _
 
 element-write-c-2 : tie.Need-element-write-c-2 Inv-loop μ-loop
 element-write-c-2 c = search needs

@@ -4,7 +4,7 @@
 use mathlib.Core.Path.{_≡_, sym, _∙_}
 use native.Mathlib.Omega.{arith}
 use lib.ListN.{length}
-use Rattle.sweeps.specs.Leaving.{having}
+use Rattle.ledger.specs.Contents.{withParts}
 use Rattle.sweeps.specs.Pruning.{refusalBy}
 use Rattle.sweeps.proofs.Reporting.{enough-room, prune-refused, prune-done}
 use borrow.Author.Needs.{needs}
@@ -20,7 +20,7 @@ refusal-requires c κs = search needs
 returns : tie.Need-returns
 returns c l h j =
     let a = c .before .before .before .args in
-    prune-refused (having l (a .roster) (a .issuers) (a .departures)) h (a .time .0) (a .lent .now) (a .p) j (c .before .refusal .result) (c .before .refusal .ensures) (c .if1 .taken)
+    prune-refused (withParts l (l .rebuilt) (a .roster) (l .entries) (a .issuers) (a .departures)) h (a .time .0) (a .lent .now) (a .p) j (c .before .refusal .result) (c .before .refusal .ensures) (c .if1 .taken)
 
 mul-write-reports : tie.Need-mul-write-reports
 mul-write-reports c = search needs
@@ -48,7 +48,7 @@ returns-2 c l h j =
     let w = c .before .before .before .before .before in
     let e = w .before .before .before .before .before .before in
     let a = e .before .before .before .args in
-    prune-done (having l (a .roster) (a .issuers) (a .departures)) h (a .time .0) (a .lent .now) (a .p) j
+    prune-done (withParts l (l .rebuilt) (a .roster) (l .entries) (a .issuers) (a .departures)) h (a .time .0) (a .lent .now) (a .p) j
     (c .before .before .retain .result) (c .before .before .retain .ensures) (c .before .without-dropped .result) (c .before .without-dropped .ensures) (c .retain2 .result) (c .retain2 .ensures)
     (goes-on e) _ (w .write-reports .ensures)
 

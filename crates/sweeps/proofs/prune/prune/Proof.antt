@@ -8,7 +8,7 @@ use native.Mathlib.Omega.{arith}
 use lib.ListN.{length}
 use Rattle.store.proofs.Rosters.{slot-within}
 use Rattle.sweeps.specs.Pruning.{Judges}
-use Rattle.sweeps.proofs.Several.{here-fits}
+use Rattle.ledger.proofs.Places.{entry-at}
 use Rattle.sweeps.proofs.Reporting.{JudgingIn, pass-none, local-good, validity-good, leg-good, file-good, here-timed, pass-stands, pass-idle, pass-falls, pass-reported, passed, reports-few}
 use borrow.Author.Needs.{needs}
 use Rattle.sweeps.proofs.prune.prune.Statement.{statement}
@@ -62,7 +62,7 @@ judge-requires c κs =
     let s = b .before .before .before .before .before .before .before in
     let l = s .args .t1 in
     let h = s .pre in
-    (here-fits l h (b .loop .i) (within k) _, (local-good l h 0, (here-timed l h 0 (b .loop .i) (within k) _, (validity-good l h 0, (leg-good l h 0, b .before .before .of .ensures .sized)))))
+    (entry-at l h (b .loop .i) (within k) .fits _, (local-good l h 0, (here-timed l h 0 (b .loop .i) (within k) _, (validity-good l h 0, (leg-good l h 0, b .before .before .of .ensures .sized)))))
 
 enum-told : tie.Need-enum-told Inv-loop μ-loop
 enum-told c = search needs
@@ -79,7 +79,7 @@ with-needs-requires c κs =
     let l = s .args .t1 in
     let h = s .pre in
     let z = b .before .before .of .ensures .sized in
-    (here-fits l h (b .loop .i) (within k) _, (local-good l h 0, (z .room, z .shardLength, z .zeroLength, z .cutLength, z .within)))
+    (entry-at l h (b .loop .i) (within k) .fits _, (local-good l h 0, (z .room, z .shardLength, z .zeroLength, z .cutLength, z .within)))
 
 some-down-requires : tie.Need-some-down-requires Inv-loop μ-loop
 some-down-requires c κs =
@@ -179,7 +179,7 @@ same-length c = search needs
 
 returns : tie.Need-returns Inv-loop μ-loop
 returns c =
-    let o = c .before .before .before .before .before in
+    let o = c .before .before .before .before .before .before in
     let k = o .before .before .before .before in
     let b = k .before in
     let s = b .before .before .before .before .before .before .before in

@@ -12,6 +12,7 @@ use Rattle.lists.specs.Lists.{keepBy}
 use Rattle.lists.proofs.Counting.{fill-one}
 use Rattle.lists.proofs.Distinct.{keepBy-test}
 use Rattle.lists.proofs.Zip.{pairs-at}
+use Rattle.types.specs.Transactions.{numberOf}
 use Rattle.store.specs.Issuers.{pair, pairsIn, isNot}
 use Rattle.store.proofs.Pairs.{pairs-length}
 use borrow.Author.Needs.{needs}
@@ -47,9 +48,9 @@ loop-again c =
     let s = c .before .before .before .before in
     let l = c .before .before .before .loop in
     let x = s .args .t1 in
-    let p = isNot (s .args .t .0) in
+    let p = isNot (numberOf (s .args .t)) in
     let h : length (pairsIn x) ≡ x .len = pairs-length x (s .pre) in
-    let m : p (getD (pairsIn x) (l .i) (pair 0 0)) ≡ not (eqb (getD (x .transactions) (l .i) 0) (s .args .t .0)) =
+    let m : p (getD (pairsIn x) (l .i) (pair 0 0)) ≡ not (eqb (getD (x .transactions) (l .i) 0) (numberOf (s .args .t))) =
     ap p (pairs-at pair (x .records) (x .transactions) (x .len) (omega arith) (omega arith) 0 0 (pair 0 0) (l .i) (omega arith)) in
     (search needs, search needs, fill-one p (l .stay) (pairsIn x) (l .i) (pair 0 0) _ (omega arith) (omega arith) (sym m) (l .inv .2))
 
@@ -61,7 +62,7 @@ returns c =
     let s = c .before .before .before in
     let l = c .before .before .loop in
     let x = s .args .t1 in
-    let p = isNot (s .args .t .0) in
+    let p = isNot (numberOf (s .args .t)) in
     let q : l .i ≡ x .len = omega arith in
     let e : take (l .i) (pairsIn x) ≡ pairsIn x = take-all (l .i) (pairsIn x) (omega (arith, pairs-length x (s .pre))) in
     let f : take (x .len) (l .stay) ≡ map p (pairsIn x) = ap (λ m. take m (l .stay)) (sym q) ∙ l .inv .2 ∙ ap (map p) e in

@@ -8,6 +8,7 @@ use lib.ListN.{length}
 use Rattle.lists.specs.Arrays.{removeAt}
 use Rattle.lists.proofs.Loops.{hole-down, inserted}
 use Rattle.lists.proofs.Distinct.{distinct-moved, every-moved}
+use Rattle.types.specs.Transactions.{numberOf}
 use Rattle.store.specs.declared.roster.Roster.{Roster}
 use borrow.Author.Needs.{needs}
 use Rattle.store.proofs.roster.Roster.insert_at.Statement.{statement}
@@ -108,7 +109,7 @@ returns c =
         distinct = distinct-moved (s .args .self .slots) (l .r .slots) (s .args .k) (s .args .self .len) (omega arith) (omega arith) q (s .pre .0 .distinct);
       };
       len = refl;
-      keys = inserted (s .args .self .keys) (l .r .keys) (s .args .self .len) (s .args .k) (s .args .tx .0) (omega arith) (omega arith) (omega arith) (rw h at (l .inv .keys));
+      keys = inserted (s .args .self .keys) (l .r .keys) (s .args .self .len) (s .args .k) (numberOf (s .args .tx)) (omega arith) (omega arith) (omega arith) (rw h at (l .inv .keys));
       slots = inserted (s .args .self .slots) (l .r .slots) (s .args .self .len) (s .args .k) _ (omega arith) (omega arith) (omega arith) q;
     }
 
