@@ -27,13 +27,13 @@ use Rattle.ledger.specs.declared.Ledger.{Ledger}
 use Rattle.ledger.specs.Contents.{Held, contents, slotAt, lyingAt, storing}
 use Rattle.ledger.specs.Meets.{Meets, ends, says}
 use Rattle.ledger.proofs.Places.{found-at}
-use Rattle.calls.specs.Looking.{slotOf, Looked}
+use Rattle.calls.specs.Looking.{slotOrFirst, Looked}
 use Rattle.calls.proofs.Single.{absence-read, absence-full, absence-new, mark-owed}
 
 -- What a lookup says of where the entry lies.
 module _ (l : Ledger) (h : Held l) (t : ℕ) (f : Found) (found : place (is t) 0 (keysOf (l .roster)) ≡ f) where
   abbrev slot : ℕ
-  slot = slotOf (l .roster .slots) f
+  slot = slotOrFirst (l .roster .slots) f
 
   pub within : (k : ℕ) → f ≡ At k → k < l .roster .len
   within k e = found-at l h t k (found ∙ e) .place
@@ -41,7 +41,7 @@ module _ (l : Ledger) (h : Held l) (t : ℕ) (f : Found) (found : place (is t) 0
   pub slot-in : slot < 48
   slot-in = go f found
     where
-      go : (g : Found) → place (is t) 0 (keysOf (l .roster)) ≡ g → slotOf (l .roster .slots) g < 48
+      go : (g : Found) → place (is t) 0 (keysOf (l .roster)) ≡ g → slotOrFirst (l .roster .slots) g < 48
       go (At k) e = found-at l h t k e .slot
       go Nothing e = every-at (λ n. n < 48) 0 0 (l .roster .slots) (omega (arith, h .roster .slotLength)) (h .roster .within)
 
@@ -65,9 +65,9 @@ room-for e a f r b = record { fits = f; rising = r; room = omega (arith, length-
 
 -- an entry put back as it was
 pub unmoved : (n m : ℕ) (l : Ledger) (t : ℕ) (f : Found) (e : Entry) → Looked l t f e → (o : Outcome) →
-    Meets o [] [] (ends n m l) → Meets o [] [] (ends n m (storing l (slotOf (l .roster .slots) f) e))
+    Meets o [] [] (ends n m l) → Meets o [] [] (ends n m (storing l (slotOrFirst (l .roster .slots) f) e))
 unmoved n m l t f e w o r =
-    let s = slotOf (l .roster .slots) f in
+    let s = slotOrFirst (l .roster .slots) f in
     let same : set (l .entries) s e ≡ l .entries = ap (set (l .entries) s) (w .lies e) ∙ put-back (l .entries) s e in
     rw same r
 

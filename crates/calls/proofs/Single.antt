@@ -1,12 +1,12 @@
 -- The calls that look up one transaction: what each does where it is owed and where it is not, from what its parts did.
 -- Assumes nothing.
 use Prim.Native.Nat.{ℕ, _≤_, _<_}
-use mathlib.Core.Path.{_≡_, refl, ap}
+use mathlib.Core.Path.{_≡_, refl, ap, sym, _∙_, subst}
 use mathlib.Core.Bool.{Bool, true, false, _&&_}
 use mathlib.Core.List.{[], _∷_}
 use mathlib.Core.Option.{none}
 use native.Mathlib.Omega.{arith}
-use lib.ListN.{length}
+use lib.ListN.{length, getD}
 use borrow.Author.Tests.{lt-ltb, le-ltb, le-leb, lt-leb}
 use Rattle.lists.specs.Lists.{keep, change}
 use Rattle.lists.specs.Arrays.{place}
@@ -26,7 +26,7 @@ use Rattle.entry.specs.Entry.{plainEntry, Means}
 use Rattle.entry.proofs.Absent.{length-absences}
 use Rattle.store.specs.declared.roster.Roster.{Roster}
 use Rattle.store.specs.declared.issuers.Issuers.{Issuers}
-use Rattle.store.specs.Roster.{keysOf, is, Removed}
+use Rattle.store.specs.Roster.{keysOf, is, LiesIn, Removed}
 use Rattle.store.specs.Issuers as issuers
 use Rattle.store.specs.Issuers.{isNot, pairsIn}
 use Rattle.ledger.specs.declared.Ledger.{Ledger}
@@ -86,14 +86,15 @@ module _ (l : Ledger) (h : Held l) (t : ℕ) where
         passes (certifyRefusal code) (contents l) _ [] [] (says 0 l) (coded q)
         (rw (not-found l h t e .changed (certified code)) (silent l (contents l) (says 0 l) (stays l h (contents l) refl) refl))
 
-    pub certify-owed : code ≤ 2 → (k : ℕ) (d x : Entry) → place (is t) 0 (keysOf (l .roster)) ≡ At k →
-        Means (certified code (plainEntry (lyingAt l k d))) x →
-        Meets (afterCertify t code (contents l)) [] [] (says 0 (storing l (slotAt l k) x))
+    pub certify-owed : code ≤ 2 → (s : ℕ) → LiesIn (l .roster) t s → (d x : Entry) → Means (certified code (plainEntry (getD (l .entries) s d))) x →
+        Meets (afterCertify t code (contents l)) [] [] (says 0 (storing l s x))
     unfolding afterCertify
-    certify-owed q k d x e m =
+    certify-owed q s w d x m =
         let o = done [] (withEntries (change transactionOf t (certified code) (contents l .entries)) (contents l)) in
+        let good = good-after (certifyRefusal code) (contents l) o (coded q) (step-good (certify t code) tt (contents l) (h .good)) in
+        let there : plainEntry x ≡ certified code (plainEntry (lyingAt l (w .at) d)) = m .plain ∙ ap (λ y. certified code (plainEntry (getD (l .entries) y d))) (w .slot) in
         passes (certifyRefusal code) (contents l) o [] [] _ (coded q)
-        (silent _ _ _ (changed l h t k x d (certified code) e (m .fits) (m .plain) (λ y. refl) (good-after (certifyRefusal code) (contents l) o (coded q) (step-good (certify t code) tt (contents l) (h .good)))) refl)
+        (subst (λ y. Meets o [] [] (says 0 (storing l y x))) (sym (w .slot)) (silent _ _ _ (changed l h t (w .at) x d (certified code) (w .found) (m .fits) there (λ y. refl) good) refl))
 
   -- Settled and returned.
   module _ (r : ℕ) (isReturn : Bool) where

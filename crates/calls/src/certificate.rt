@@ -11,7 +11,7 @@ ghost use Rattle.ledger.specs.Contents.{Held, contents};
 ghost use Rattle.ledger.specs.Meets.{Meets};
 ghost use Rattle.calls.specs.Looking.{IsAbsenceOutcome};
 ghost use Rattle.types.specs.Transactions.{numberOf};
-use crate::looking::slot_of;
+use crate::looking::slot_or_first;
 use entry::Entry;
 use ledger::Done;
 use ledger::Ledger;
@@ -30,8 +30,7 @@ pub fn certify(mut ledger: Ledger, tx: Transaction, code: u64) -> Done
         refused = 5;
     } else {
         let roster = ledger.roster;
-        if let Found::At(k) = roster.find(tx) {
-            let slot = roster.slots[k];
+        if let Found::At(slot) = roster.slot_of(tx) {
             let e = ledger.entries[slot];
             ledger.entries[slot] = e.with_certificate((code % 256) as u8);
         }
@@ -98,7 +97,7 @@ pub fn record_absence(mut ledger: Ledger, tx: Transaction, shard: Shard, key: u6
 {
     let roster = ledger.roster;
     let found = roster.find(tx);
-    let slot = slot_of(roster, found);
+    let slot = slot_or_first(roster, found);
     let e = ledger.entries[slot];
     let outcome = absence_outcome(found, e, shard, key);
     let f = outcome.entry;

@@ -11,7 +11,7 @@ ghost use Rattle.ledger.specs.Contents.{Held, contents};
 ghost use Rattle.ledger.specs.Meets.{Meets};
 ghost use Rattle.calls.specs.Looking.{TakesMark};
 ghost use Rattle.types.specs.Transactions.{numberOf};
-use crate::looking::slot_of;
+use crate::looking::slot_or_first;
 use entry::Entry;
 use ledger::Done;
 use ledger::Ledger;
@@ -40,7 +40,7 @@ pub fn settled(mut ledger: Ledger, r: RecordKey, tx: Transaction) -> Done
 {
     let roster = ledger.roster;
     let found = roster.find(tx);
-    let slot = slot_of(roster, found);
+    let slot = slot_or_first(roster, found);
     let e = ledger.entries[slot];
     ledger.entries[slot] = marked(found, e, ledger.local, r, false);
     Done {
@@ -57,7 +57,7 @@ pub fn returned(mut ledger: Ledger, r: RecordKey, tx: Transaction) -> Done
 {
     let roster = ledger.roster;
     let found = roster.find(tx);
-    let slot = slot_of(roster, found);
+    let slot = slot_or_first(roster, found);
     let e = ledger.entries[slot];
     ledger.entries[slot] = marked(found, e, ledger.local, r, true);
     Done {

@@ -6,6 +6,7 @@ use mathlib.Core.List.{List}
 use lib.Dec.{leb}
 use lib.ListN.{length, take}
 use Rattle.lists.specs.Lists.{concatMap}
+use Rattle.rules.specs.Widths.{reportSize, reportRoom}
 use Rattle.rules.specs.Plain.{Plain}
 use Rattle.rules.specs.Index.{index, names, listsRecord}
 use Rattle.rules.specs.Prune.{reportWords, fallen, reports, pruned, prunes, allReports, allFallen, inOrder, lastOf}
@@ -39,7 +40,7 @@ pub record Equals (p : Plain) (l : Ledger) : Type 0 where
 
 -- 'a valid clock is a time', 'never-falling'; with room for a report of each of the 48 entries, and for two numbers of each prune
 abbrev pub mayPrune : List ℕ → List ℕ → List ℕ → Bool
-mayPrune clocks reportList countList = steady 0 clocks && (leb 144 (length reportList) && leb (2 * length clocks) (length countList))
+mayPrune clocks reportList countList = steady 0 clocks && (leb reportRoom (length reportList) && leb (2 * length clocks) (length countList))
 
 -- 'Each call or prune gets the ledger that the last one handed back', 'the prunes are made at each clock in turn'. k is the caller's choice, so
 -- that the ledger is known after each of them, with its index; k = 0 is the ledger before the prunes. One list of 144 words in all is lent
@@ -72,8 +73,8 @@ pub record AsOne (p : Plain) (clocks : List ℕ) (last : ℕ) (reportList countL
   pub legSpan : r .after .«leg_span» ≡ r .before .«leg_span»
   pub rebuilt : r .after .rebuilt ≡ r .before .rebuilt
   -- 'the reports, put in transaction order, equal the one prune's word for word'; shut out: a report lost or doubled, or with another charge
-  pub told : inOrder (reportsIn (take (3 * r .written) (reportList .is))) ≡ reports last p
-  pub words : concatMap reportWords (inOrder (reportsIn (take (3 * r .written) (reportList .is)))) ≡ concatMap reportWords (reports last p)
+  pub told : inOrder (reportsIn (take (reportSize * r .written) (reportList .is))) ≡ reports last p
+  pub words : concatMap reportWords (inOrder (reportsIn (take (reportSize * r .written) (reportList .is)))) ≡ concatMap reportWords (reports last p)
   -- 'the numbers fallen and of reports written add up to its own', those handed back and those of the single prunes; shut out: an entry that
   -- falls twice, or is counted at no clock
   pub gone : r .fallen ≡ length (fallen last p)

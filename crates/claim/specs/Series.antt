@@ -6,6 +6,7 @@ use mathlib.Core.List.{List, [], _∷_, _++_, map}
 use lib.Dec.{leb}
 use lib.ListN.{length, take}
 use Rattle.lists.specs.Lists.{concatMap}
+use Rattle.rules.specs.Widths.{reportRoom}
 use Rattle.rules.specs.Numbers.{isTime}
 use Rattle.rules.specs.Plain.{Plain}
 use Rattle.rules.specs.Prune.{Report, reportWords, fallen, reports, pruned, prunes, allReports, allFallen}
@@ -44,7 +45,7 @@ reportsIn (t ∷ c ∷ x ∷ ws) = record { transaction = t; covered = c; charge
 
 -- the prunes as calls, each of which is lent room for the reports of 48 entries
 abbrev pub pruneCalls : List ℕ → List Call
-pruneCalls clocks = map (λ t. prune t 144) clocks
+pruneCalls clocks = map (λ t. prune t reportRoom) clocks
 
 -- what calls write and answer, one after the other
 abbrev pub allWords : List Call → Plain → List ℕ

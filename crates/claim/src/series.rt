@@ -8,10 +8,13 @@ ghost use Rattle.lists.specs.Lists.{all};
 ghost use Rattle.rules.specs.Numbers.{isTime};
 ghost use Rattle.ledger.specs.Contents.{Held, contents};
 ghost use Rattle.claim.specs.Series.{steady, Series};
+ghost use Rattle.rules.specs.Widths.{reportRoom};
 use ledger::Ledger;
 use sweeps::prune::prune;
 use types::Time;
 use types::is_time;
+use types::widths::REPORT_WORDS;
+use types::widths::REPORTS_ROOM;
 
 fn clock_at(clocks: &[u64], k: usize) -> Time
     requires { ⌜ k < length (now clocks) ⌝ }
@@ -42,14 +45,14 @@ fn is_nondecreasing(clocks: &[u64]) -> bool
 
 // Whether there is room for a report of each of the 48 entries, and for two numbers of each of so many prunes.
 fn has_room(prunes: usize, reports: usize, counts: usize) -> bool
-    ensures { λ r. ⌜ r ≡ leb 144 reports && leb (2 * prunes) counts ⌝ }
+    ensures { λ r. ⌜ r ≡ leb reportRoom reports && leb (2 * prunes) counts ⌝ }
 {
-    144 <= reports && prunes <= counts / 2
+    REPORTS_ROOM <= reports && prunes <= counts / 2
 }
 
 // Whether prunes at these clocks may be made with lists of these lengths.
 pub fn may_prune(clocks: &[u64], reports: usize, counts: usize) -> bool
-    ensures { λ r. ⌜ r ≡ steady 0 (now (clocks .entry)) && (leb 144 reports && leb (2 * length (now (clocks .entry))) counts) ⌝ }
+    ensures { λ r. ⌜ r ≡ steady 0 (now (clocks .entry)) && (leb reportRoom reports && leb (2 * length (now (clocks .entry))) counts) ⌝ }
 {
     is_nondecreasing(clocks) && has_room(clocks.len(), reports, counts)
 }
@@ -77,7 +80,7 @@ pub fn prune_all(
     reports: &mut [u64],
     counts: &mut [u64],
 ) -> PrunedAll
-    requires { ⌜ Held start × (all isTime (now clocks) ≡ true) × (144 ≤ length (now reports)) × (2 * length (now clocks) ≤ length (now counts)) ⌝ }
+    requires { ⌜ Held start × (all isTime (now clocks) ≡ true) × (reportRoom ≤ length (now reports)) × (2 * length (now clocks) ≤ length (now counts)) ⌝ }
     ensures { λ r. ⌜ Series k (now (clocks .entry)) (contents start) (now (reports .entry)) (now (reports .exit)) (now (counts .entry)) (now (counts .exit)) r ⌝ }
 {
     let mut ledger = start;
@@ -87,7 +90,7 @@ pub fn prune_all(
     let mut i: usize = 0;
     while i < clocks.len() {
         let clock = clock_at(clocks, i);
-        let at = 3 * written;
+        let at = REPORT_WORDS * written;
         let done = prune(ledger, clock, &mut reports[at..]);
         let reported = done.answers[0];
         let gone = done.answers[1];

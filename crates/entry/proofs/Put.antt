@@ -1,29 +1,27 @@
--- A new mark or absence has room, and where it is put in at its rank the list is the one that has it included. An issued record has
--- room among the marks: they rise and are issued, and no more are issued than there are edges.
+-- A new absence has room, and where it is put in at its rank the list is the one that has it included. An issued record has room
+-- among the marks: they rise and are issued, and no more are issued than there are edges.
 -- Assumes nothing.
 use Prim.Native.Nat.{ℕ, _+_, _≤_, _<_}
 use mathlib.Core.Path.{_≡_, sym, ap, _∙_}
 use mathlib.Core.Bool.{Bool, true, false, _||_, false≢true}
 use mathlib.Core.List.{List}
-use native.Mathlib.Numerals.{add-one}
 use native.Mathlib.Omega.{arith}
 use lib.Dec.{eqb}
 use lib.ListN.{length, take, length-map}
-use lib.Seq.{length-take-le}
 use Rattle.lists.specs.Lists.{has, include, self, zipBy}
-use Rattle.lists.specs.Arrays.{rank}
+use Rattle.lists.specs.Arrays.{rank, Inserted}
 use Rattle.lists.proofs.Keep.{length-keep}
 use Rattle.lists.proofs.Loops.{rank-le, include-rank}
 use Rattle.lists.proofs.Order.{ascending-include, every-include, length-include-new}
 use Rattle.lists.proofs.Room.{rising-within}
 use Rattle.lists.proofs.Tests.{or-left}
-use Rattle.lists.proofs.Zip.{insert-zip}
+use Rattle.lists.proofs.Zip.{insert-pairs}
 use Rattle.rules.specs.Numbers.{recordKey}
 use Rattle.rules.specs.Plain as plain
 use Rattle.rules.specs.Plain.{Edge, Absence, Terms, absenceKey, edgesFrom, issued, issues, isSettling}
 use Rattle.rules.specs.Good.{GoodEntry, GoodPart, Marked}
 use Rattle.entry.specs.declared.Entry.{Entry}
-use Rattle.entry.specs.Entry.{plainEntry, plainPart, absence, absencesOf, below, lower, Fits, Inserted, RoomForAbsence, RoomForMark}
+use Rattle.entry.specs.Entry.{plainEntry, plainPart, absence, absencesOf, below, Fits, RoomForAbsence, RoomForMark}
 use Rattle.entry.proofs.Absent.{length-absences}
 
 -- a flag that one of two raises, as the code comes by it
@@ -32,23 +30,6 @@ either-first a b x h k = h ∙ k ∙ sym (or-left a b k)
 
 pub either-second : (a b x : Bool) → x ≡ b → a ≡ false → x ≡ a || b
 either-second a b x h k = h ∙ sym (ap (λ c. c || b) k)
-
-module _ (e : Entry) (r : ℕ) (room : RoomForMark r e) where
-  abbrev marks : List ℕ
-  marks = take (e .«marks_len») (e .marks)
-
-  length-marks : length marks ≡ e .«marks_len»
-  length-marks = length-take-le (e .«marks_len») (e .marks) (omega (arith, room .fits .marksLen, room .fits .marks))
-
-  pub mark-room : has self r marks ≡ false → e .«marks_len» < 8
-  mark-room new = omega (arith, length-include-new self r marks new, room .room, length-marks)
-
-  pub mark-rank : rank (lower r) marks ≤ e .«marks_len»
-  mark-rank = omega (arith, rank-le (lower r) marks, length-marks)
-
-  pub mark-put : (k : ℕ) (a : List ℕ) → has self r marks ≡ false → k ≡ rank (lower r) marks → Inserted (e .marks) (e .«marks_len») k r a →
-      take (e .«marks_len» + 1) a ≡ include self r marks
-  mark-put k a new at o = rw (add-one (e .«marks_len»), o .front, at) (include-rank self r marks new)
 
 module _ (e : Entry) (shard key : ℕ) (room : RoomForAbsence (absence shard key) e) where
   abbrev n : ℕ
@@ -68,12 +49,9 @@ module _ (e : Entry) (shard key : ℕ) (room : RoomForAbsence (absence shard key
       Inserted (e .«absent_shards») n k shard s → Inserted (e .«absent_keys») n k key t →
       zipBy absence (take (e .«absences_len» + 1) s) (take (e .«absences_len» + 1) t) ≡ include absenceKey it (absencesOf e)
   absence-put k s t new at o p =
-      let h = length-take-le n (e .«absent_shards») (omega (arith, room .fits .absencesLen, room .fits .absentShards)) in
-      let i = length-take-le n (e .«absent_keys») (omega (arith, room .fits .absencesLen, room .fits .absentKeys)) in
-      let j : k ≤ n = omega (arith, at, absence-rank) in
-      rw (add-one n, o .front, p .front)
-      (insert-zip absence k shard key (take n (e .«absent_shards»)) (take n (e .«absent_keys»)) (omega arith) (omega arith)
-      ∙ rw at (include-rank absenceKey it (absencesOf e) new))
+      insert-pairs absence (e .«absent_shards») (e .«absent_keys») n (omega (arith, room .fits .absencesLen, room .fits .absentShards))
+      (omega (arith, room .fits .absencesLen, room .fits .absentKeys)) k shard key s t (omega (arith, at, absence-rank)) (o .front) (p .front)
+      ∙ rw at (include-rank absenceKey it (absencesOf e) new)
 
 marked-of : (p : plain.Part) (local : ℕ) (t : Terms) (m : List ℕ) (b : Bool) → isSettling p ≡ true → GoodPart p local t m b → Marked local t m b
 marked-of plain.whole local t m b h g = absurd (false≢true h)

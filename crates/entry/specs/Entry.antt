@@ -1,12 +1,11 @@
 -- What an entry's fields mean, as an entry of the plain ledger, and that they fit their arrays.
-use Prim.Native.Nat.{ℕ, suc, _≤_}
+use Prim.Native.Nat.{ℕ, _≤_}
 use mathlib.Core.Path.{_≡_}
 use mathlib.Core.Bool.{Bool}
 use mathlib.Core.List.{List}
 use lib.Dec.{ltb}
 use lib.ListN.{length, take}
 use Rattle.lists.specs.Lists.{Every, Ascending, has, include, self, zipBy, cut}
-use Rattle.lists.specs.Arrays.{insertAt}
 use Rattle.rules.specs.Plain as plain
 use Rattle.rules.specs.Words.{edge, with}
 use Rattle.types.specs.Transactions.{numberOf}
@@ -81,20 +80,12 @@ pub record Means (p : plain.Entry) (e : Entry) : Type 0 where
   pub fits : Fits e
   pub plain : plainEntry e ≡ p
 
-abbrev pub lower : ℕ → ℕ → Bool
-lower x y = ltb y x
-
 -- lower by shard and then key
 abbrev pub below : plain.Absence → plain.Absence → Bool
 below a b = ltb (plain.absenceKey b) (plain.absenceKey a)
 
 abbrev pub isMarked : Entry → ℕ → Bool
 isMarked e r = has self r (take (e .«marks_len») (e .marks))
-
--- an array whose first n had x put in at k
-pub record Inserted (a : List ℕ) (n k x : ℕ) (b : List ℕ) : Type 0 where
-  pub front : take (suc n) b ≡ insertAt k x (take n a)
-  pub size : length b ≡ 8
 
 -- with the absence put in, the absences still fit
 pub record RoomForAbsence (a : plain.Absence) (e : Entry) : Type 0 where

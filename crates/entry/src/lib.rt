@@ -1,16 +1,19 @@
 // An entry: one transaction that is owed an ending (the Rust's `Owed`), and what each kind of call asks and changes of it.
 ghost use mathlib.Core.Path.{_≡_};
 ghost use mathlib.Core.Bool.{_&&_, _||_, not, true};
-ghost use Prim.Native.Nat.{_≤_, _<_};
+ghost use Prim.Native.Nat.{_≤_};
 ghost use lib.Dec.{eqb, ltb};
 ghost use lib.ListN.{take};
 ghost use Rattle.lists.specs.Lists.{all, has, include, self as itself, filled, zipBy};
-ghost use Rattle.lists.specs.Arrays.{rank as rankOf};
+ghost use Rattle.lists.specs.Arrays.{rank};
 ghost use Rattle.rules.specs.Numbers.{recordKey, isShard};
 ghost use Rattle.rules.specs.Plain.{partNumber, isCore, isLeg, isSettling, isCovered, issued, issues, owes, remote, remainder, absenceKey};
 ghost use Rattle.rules.specs.Entries.{certified, withDepartedBy, withPart, withMarks, marked, readAbsent, isRead, isClosed};
 ghost use Rattle.rules.specs.Good.{GoodEntry};
-ghost use Rattle.entry.specs.Entry.{plainEntry, plainPart, absence, below, lower, isMarked, Fits, Means, Inserted, RoomForAbsence, RoomForMark};
+ghost use Rattle.entry.specs.Entry.{plainEntry, plainPart, absence, below, isMarked, Fits, Means, RoomForAbsence, RoomForMark};
+use lists::slices::contains;
+use lists::sorted::include;
+use lists::sorted::insert_at;
 use types::RecordKey;
 use types::Shard;
 use types::Time;
@@ -80,40 +83,10 @@ fn is_lower(s: Shard, k: u64, shard: Shard, key: u64) -> bool
     s.0 < shard.0 || s.0 == shard.0 && k < key
 }
 
-// Whether r stands among the first n marks.
-fn stands(marks: [u64; 8], n: usize, r: RecordKey) -> bool
-    requires { ⌜ n ≤ 8 ⌝ }
-    ensures { λ x. ⌜ x ≡ has itself (r .0) (take n marks) ⌝ }
-{
-    let mut i: usize = 0;
-    while i < n {
-        if marks[i] == r.0 {
-            return true;
-        }
-        i += 1;
-    }
-    false
-}
-
-// How many of the first n marks, from the front, are lower than r.
-fn rank(marks: [u64; 8], n: usize, r: RecordKey) -> usize
-    requires { ⌜ n ≤ 8 ⌝ }
-    ensures { λ x. ⌜ x ≡ rankOf (lower (r .0)) (take n marks) ⌝ }
-{
-    let mut i: usize = 0;
-    while i < n {
-        if marks[i] >= r.0 {
-            return i;
-        }
-        i += 1;
-    }
-    i
-}
-
 // How many of the first n absences, from the front, are lower than this one.
 fn rank_absence(shards: [u64; 8], keys: [u64; 8], n: usize, shard: Shard, key: u64) -> usize
     requires { ⌜ n ≤ 8 ⌝ }
-    ensures { λ r. ⌜ r ≡ rankOf (below (absence (shard .0) key)) (zipBy absence (take n shards) (take n keys)) ⌝ }
+    ensures { λ r. ⌜ r ≡ rank (below (absence (shard .0) key)) (zipBy absence (take n shards) (take n keys)) ⌝ }
 {
     let mut i: usize = 0;
     while i < n {
@@ -123,23 +96,6 @@ fn rank_absence(shards: [u64; 8], keys: [u64; 8], n: usize, shard: Shard, key: u
         i += 1;
     }
     i
-}
-
-// The first n with x put in at k.
-fn insert_at(items: [u64; 8], n: usize, k: usize, x: u64) -> [u64; 8]
-    requires { ⌜ (k ≤ n) × (n < 8) ⌝ }
-    ensures { λ r. ⌜ Inserted items n k x r ⌝ }
-{
-    let mut a = items;
-    let mut i = n;
-    while k < i {
-        let j = i - 1;
-        let y = a[j];
-        a[i] = y;
-        i = j;
-    }
-    a[k] = x;
-    a
 }
 
 impl Part {
@@ -333,14 +289,14 @@ impl Entry {
             return self;
         }
         let n = self.absences_len as usize;
-        let shards = self.absent_shards;
-        let keys = self.absent_keys;
+        let mut shards = self.absent_shards;
+        let mut keys = self.absent_keys;
         let k = rank_absence(shards, keys, n, shard, key);
-        let s = insert_at(shards, n, k, shard.0);
-        let t = insert_at(keys, n, k, key);
+        insert_at(&mut shards, n, k, shard.0);
+        insert_at(&mut keys, n, k, key);
         let mut e = self;
-        e.absent_shards = s;
-        e.absent_keys = t;
+        e.absent_shards = shards;
+        e.absent_keys = keys;
         e.absences_len += 1;
         e
     }
@@ -352,7 +308,7 @@ impl Entry {
     {
         let n = self.marks_len as usize;
         let marks = self.marks;
-        stands(marks, n, r)
+        contains(&marks[0..n], r.0)
     }
 
     // The entry with this record marked, whatever its part.
@@ -361,16 +317,12 @@ impl Entry {
         ensures { λ x. ⌜ Means (withMarks (include itself (r .0) (plainEntry self .marks)) (self .returned || «is_return») (plainEntry self)) x ⌝ }
     {
         let n = self.marks_len as usize;
-        let marks = self.marks;
+        let mut marks = self.marks;
+        let m = include(&mut marks, n, r.0);
         let mut e = self;
         e.returned = self.returned || is_return;
-        if stands(marks, n, r) {
-            return e;
-        }
-        let k = rank(marks, n, r);
-        let m = insert_at(marks, n, k, r.0);
-        e.marks = m;
-        e.marks_len += 1;
+        e.marks = marks;
+        e.marks_len = m as u8;
         e
     }
 

@@ -8,6 +8,7 @@ ghost use lib.Dec.{eqb};
 ghost use lib.ListN.{length};
 ghost use Rattle.rules.specs.Readings.{read, askQuestions, listPastDeadline, listIssuers, questions, questionsOf, questionWords, pastDeadline, termWords, issuersOf, issuerWords};
 ghost use Rattle.rules.specs.Good.{GoodEntry};
+ghost use Rattle.rules.specs.Widths.{questionSize, termRoom, issuerRoom};
 ghost use Rattle.entry.specs.Entry.{plainEntry, Fits};
 ghost use Rattle.ledger.specs.Contents.{contents, Held};
 ghost use Rattle.readings.specs.Reads.{Reads};
@@ -21,6 +22,11 @@ use readings::reply::list;
 use readings::reply::refusal;
 use types::Shard;
 use types::Time;
+use types::widths::ISSUER_WORDS;
+use types::widths::ISSUERS_ROOM;
+use types::widths::QUESTION_WORDS;
+use types::widths::TERM_WORDS;
+use types::widths::TERMS_ROOM;
 
 // Whether the entry asks: an uncovered core.
 fn is_asking(e: Entry) -> bool
@@ -37,7 +43,7 @@ fn is_asking(e: Entry) -> bool
 // The entry's questions, five words each, put behind those that are there; how many there are then. The core is taken out of the entry
 // first, so that the entry needs no copy.
 fn put_questions(e: Entry, local: Shard, from: usize, words: &mut [u64]) -> usize
-    requires { ⌜ Fits e × (5 * (from + length (asksOf (local .0) (plainEntry e))) ≤ length (now words)) ⌝ }
+    requires { ⌜ Fits e × (questionSize * (from + length (asksOf (local .0) (plainEntry e))) ≤ length (now words)) ⌝ }
     ensures { λ r. ⌜ Ran questionWords 5 (asksOf (local .0) (plainEntry e)) (now (words .entry)) from (now (words .exit)) r ⌝ }
 {
     let n = e.core_len as usize;
@@ -49,7 +55,7 @@ fn put_questions(e: Entry, local: Shard, from: usize, words: &mut [u64]) -> usiz
         if shard.0 == local.0 {
             i += 1;
         } else {
-            let at = 5 * count;
+            let at = QUESTION_WORDS * count;
             words[at] = e.tx.0;
             words[at + 1] = shard.0;
             words[at + 2] = types::cell_key(e.tx, e.end, shard);
@@ -89,7 +95,7 @@ pub fn questions(ledger: Ledger, lent: &mut [u64]) -> Answer
         count += asks(e, ledger.local);
         i += 1;
     }
-    if lent.len() < 5 * count {
+    if lent.len() < QUESTION_WORDS * count {
         return refusal(9);
     }
     let mut written: usize = 0;
@@ -125,8 +131,8 @@ fn is_past(e: Entry, validity: u64, time: Time) -> bool
     e.certified < 2 || time.0 < e.at.0 + validity
 }
 
-fn gather_past(ledger: Ledger, time: Time, words: &mut [u64; 240]) -> usize
-    requires { ⌜ Held ledger × (length (now words) ≡ 240) ⌝ }
+fn gather_past(ledger: Ledger, time: Time, words: &mut [u64; TERMS_ROOM]) -> usize
+    requires { ⌜ Held ledger × (length (now words) ≡ termRoom) ⌝ }
     ensures { λ r. ⌜ Ran termWords 5 (pastDeadline (time .0) (contents ledger)) (now (words .entry)) 0 (now (words .exit)) r ⌝ }
 {
     let roster = ledger.roster;
@@ -137,7 +143,7 @@ fn gather_past(ledger: Ledger, time: Time, words: &mut [u64; 240]) -> usize
         let slot = roster.slots[i];
         let e = ledger.entries[slot];
         if is_past(e, ledger.validity, time) {
-            let at = 5 * count;
+            let at = TERM_WORDS * count;
             words[at] = e.tx.0;
             words[at + 1] = e.at.0;
             words[at + 2] = e.end.0;
@@ -160,9 +166,9 @@ pub fn past_deadline(ledger: Ledger, time: Time, lent: &mut [u64]) -> Answer
     if !types::is_time(time.0) {
         return refusal(3);
     }
-    let mut words = [0u64; 240];
+    let mut words = [0u64; TERMS_ROOM];
     let n = gather_past(ledger, time, &mut words);
-    list(&words, 5 * n, n, lent)
+    list(&words, TERM_WORDS * n, n, lent)
 }
 
 // Whether an edge is from local and of this very id.
@@ -190,8 +196,8 @@ fn issues_id(e: Entry, local: Shard, id: u64) -> bool
     false
 }
 
-fn gather_issuers(ledger: Ledger, id: u64, words: &mut [u64; 96]) -> usize
-    requires { ⌜ Held ledger × (length (now words) ≡ 96) ⌝ }
+fn gather_issuers(ledger: Ledger, id: u64, words: &mut [u64; ISSUERS_ROOM]) -> usize
+    requires { ⌜ Held ledger × (length (now words) ≡ issuerRoom) ⌝ }
     ensures { λ r. ⌜ Ran issuerWords 2 (issuersOf id (contents ledger)) (now (words .entry)) 0 (now (words .exit)) r ⌝ }
 {
     let roster = ledger.roster;
@@ -202,7 +208,7 @@ fn gather_issuers(ledger: Ledger, id: u64, words: &mut [u64; 96]) -> usize
         let slot = roster.slots[i];
         let e = ledger.entries[slot];
         if issues_id(e, ledger.local, id) {
-            let at = 2 * count;
+            let at = ISSUER_WORDS * count;
             words[at] = e.tx.0;
             words[at + 1] = e.end.0;
             count += 1;
@@ -219,7 +225,7 @@ pub fn issuers_of(ledger: Ledger, id: u64, lent: &mut [u64]) -> Answer
     requires { ⌜ Held ledger ⌝ }
     ensures { λ r. ⌜ Reads (read (listIssuers id (length (now (lent .entry)))) (contents ledger)) (now (lent .entry)) (now (lent .exit)) r ⌝ }
 {
-    let mut words = [0u64; 96];
+    let mut words = [0u64; ISSUERS_ROOM];
     let n = gather_issuers(ledger, id, &mut words);
-    list(&words, 2 * n, n, lent)
+    list(&words, ISSUER_WORDS * n, n, lent)
 }

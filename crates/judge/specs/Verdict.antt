@@ -40,3 +40,10 @@ byRoutes p now e =
     cond (ltb 0 (e .certificate) && filled (remote (p .local) (e .terms)))
     (reportedUnless 0 (standsBy answering p now e))
     (quietUnless (standsBy expiring p now e))
+
+-- what is said of an entry in every ledger that faces this view: by rules 4 and 5 alone, and by all five
+abbrev pub RuledByRoutes : View → ℕ → ℕ → ℕ → Entry → Verdict → Type 0
+RuledByRoutes v now home validity e r = (p : Plain) (legSpan : ℕ) → Faces p now home validity legSpan v → r ≡ byRoutes p now e
+
+abbrev pub Judged : View → ℕ → ℕ → ℕ → ℕ → Entry → Verdict → Type 0
+Judged v now home validity legSpan e r = (p : Plain) → Faces p now home validity legSpan v → Says r p now e

@@ -4,16 +4,15 @@ use types::Shard;
 use types::Time;
 ghost use mathlib.Core.Path.{_≡_};
 ghost use mathlib.Core.Bool.{_&&_, _||_, true, not};
-ghost use mathlib.Core.List.{List};
 ghost use lib.Dec.{eqb, ltb, leb};
 ghost use lib.ListN.{take};
-ghost use Prim.Native.Nat.{ℕ, _+_, _/_, _^_, _≤_, _<_};
+ghost use Prim.Native.Nat.{_+_, _/_, _^_, _≤_, _<_};
 ghost use Rattle.rules.specs.Plain as plain;
 ghost use Rattle.rules.specs.Numbers.{isShard, owns};
 ghost use Rattle.rules.specs.Prune.{holds};
 ghost use Rattle.entry.specs.Entry.{plainEntry, Fits};
-ghost use Rattle.judge.specs.View.{view, Sized, Shows, zerosOf};
-ghost use Rattle.judge.specs.Answers.{Asks, isAnswerable, coversSome};
+ghost use Rattle.judge.specs.View.{view, Sized, zerosOf};
+ghost use Rattle.judge.specs.Answers.{SaysAnswerable, SaysCovered};
 
 // More than any cut and any shard.
 const TOP: u64 = 0xFFFF_FFFF_FFFF_FFFF;
@@ -72,7 +71,7 @@ pub fn is_answerable<'a>(
     requires { ⌜ n ≤ 8 ⌝ }
     requires { ⌜ isShard (local .0) ≡ true ⌝ }
     requires { ⌜ Sized (view (now shards) (now zeros) (now cuts) (now readable) len) ⌝ }
-    ensures { λ r. ⌜ ((ds : List plain.Departure) (at : ℕ) (e : plain.Entry) → Shows ds at (view (now (shards .entry)) (now (zeros .entry)) (now (cuts .entry)) (now (readable .entry)) len) → Asks (take n routes) (anchor .0) e → r ≡ isAnswerable at ds (local .0) e) ⌝ }
+    ensures { λ r. ⌜ SaysAnswerable (view (now (shards .entry)) (now (zeros .entry)) (now (cuts .entry)) (now (readable .entry)) len) (take n routes) (anchor .0) (local .0) r ⌝ }
 {
     let mut stands = false;
     let mut i: usize = 0;
@@ -136,7 +135,7 @@ fn covers_some(
     requires { ⌜ n ≤ 8 ⌝ }
     requires { ⌜ isShard (local .0) ≡ true ⌝ }
     requires { ⌜ zeros < 64 ⌝ }
-    ensures { λ r. ⌜ ((d : plain.Departure) (e : plain.Entry) → isShard (d .shard) ≡ true → shard .0 ≡ d .shard → zeros ≡ zerosOf d → cut .0 ≡ d .cut → Asks (take n routes) (anchor .0) e → r ≡ coversSome (local .0) d e) ⌝ }
+    ensures { λ r. ⌜ SaysCovered (shard .0) zeros (cut .0) (take n routes) (anchor .0) (local .0) r ⌝ }
 {
     let mut i: usize = 0;
     while i < n {

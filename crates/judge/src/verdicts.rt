@@ -8,13 +8,13 @@ use types::Time;
 ghost use mathlib.Core.Path.{_≡_};
 ghost use mathlib.Core.Bool.{_&&_, _||_, true};
 ghost use lib.Dec.{ltb};
-ghost use Prim.Native.Nat.{ℕ, _<_};
+ghost use Prim.Native.Nat.{_<_};
 ghost use Rattle.rules.specs.Plain as plain;
 ghost use Rattle.rules.specs.Plain.{isCore, isSettling};
 ghost use Rattle.rules.specs.Numbers.{isShard, isTime, isSpan};
 ghost use Rattle.entry.specs.Entry.{plainEntry, plainPart, Fits};
 ghost use Rattle.judge.specs.View.{view, Sized};
-ghost use Rattle.judge.specs.Verdict.{Says, Faces, reportedUnless, quietUnless, byRoutes};
+ghost use Rattle.judge.specs.Verdict.{reportedUnless, quietUnless, RuledByRoutes, Judged};
 
 // Reported holds what the report says of covered, 0 or 1; an entry that only falls is not reported.
 pub enum Verdict {
@@ -86,7 +86,7 @@ fn by_routes<'a>(
     requires { ⌜ isTime (e .at .0) ≡ true ⌝ }
     requires { ⌜ isSpan validity ≡ true ⌝ }
     requires { ⌜ Sized (view (now shards) (now zeros) (now cuts) (now readable) len) ⌝ }
-    ensures { λ r. ⌜ ((p : plain.Plain) (l : ℕ) → Faces p (time .0) (local .0) validity l (view (now (shards .entry)) (now (zeros .entry)) (now (cuts .entry)) (now (readable .entry)) len) → r ≡ byRoutes p (time .0) (plainEntry e)) ⌝ }
+    ensures { λ r. ⌜ RuledByRoutes (view (now (shards .entry)) (now (zeros .entry)) (now (cuts .entry)) (now (readable .entry)) len) (time .0) (local .0) validity (plainEntry e) r ⌝ }
 {
     if 0 < e.certified {
         if e.reaches_beyond(local) {
@@ -129,7 +129,7 @@ pub fn judge<'a>(
     requires { ⌜ isSpan validity ≡ true ⌝ }
     requires { ⌜ isSpan «leg_span» ≡ true ⌝ }
     requires { ⌜ Sized (view (now shards) (now zeros) (now cuts) (now readable) len) ⌝ }
-    ensures { λ r. ⌜ ((p : plain.Plain) → Faces p (time .0) (local .0) validity «leg_span» (view (now (shards .entry)) (now (zeros .entry)) (now (cuts .entry)) (now (readable .entry)) len) → Says r p (time .0) (plainEntry e)) ⌝ }
+    ensures { λ r. ⌜ Judged (view (now (shards .entry)) (now (zeros .entry)) (now (cuts .entry)) (now (readable .entry)) len) (time .0) (local .0) validity «leg_span» (plainEntry e) r ⌝ }
 {
     let part = e.part;
     let departed_by = e.departed_by;

@@ -5,17 +5,16 @@ use types::Shard;
 use types::Time;
 ghost use mathlib.Core.Path.{_≡_};
 ghost use mathlib.Core.Bool.{_&&_, true};
-ghost use mathlib.Core.List.{List};
-ghost use lib.Dec.{eqb, ltb};
+ghost use lib.Dec.{eqb};
 ghost use lib.ListN.{length};
-ghost use Prim.Native.Nat.{ℕ, _≤_};
+ghost use Prim.Native.Nat.{_≤_};
 ghost use Rattle.lists.specs.Lists.{Every};
 ghost use Rattle.rules.specs.Plain as plain;
 ghost use Rattle.rules.specs.Prune.{readable};
 ghost use Rattle.rules.specs.Good.{GoodDeparture};
 ghost use Rattle.store.specs.Departures.{plainDeparture, onFile, Sound};
-ghost use Rattle.judge.specs.View.{view, Shows};
-ghost use Rattle.judge.specs.Answers.{namedReadable};
+ghost use Rattle.judge.specs.View.{Shows};
+ghost use Rattle.judge.specs.Answers.{SaysNamed};
 
 // Of each departure its shard, the leading zeros of the shard, its cut, and whether it is readable at the clock.
 pub struct View {
@@ -79,7 +78,7 @@ pub fn named_readable<'a>(
     n: usize,
 ) -> bool
     requires { ⌜ (n ≤ 32) × (length (now shards) ≡ 32) × (length (now readable) ≡ 32) ⌝ }
-    ensures { λ r. ⌜ ((ds : List plain.Departure) (at : ℕ) (zs cs : List ℕ) (e : plain.Entry) → Shows ds at (view (now (shards .entry)) zs cs (now (readable .entry)) n) → e .departedBy ≡ «departed_by» .0 → ltb 0 (e .departedBy) ≡ true → r ≡ namedReadable at ds e) ⌝ }
+    ensures { λ r. ⌜ SaysNamed (now (shards .entry)) (now (readable .entry)) n («departed_by» .0) r ⌝ }
 {
     let mut i: usize = 0;
     while i < n {

@@ -21,7 +21,7 @@ use Rattle.rules.specs.Plain.{transactionOf}
 use Rattle.rules.specs.Good.{GoodEntry}
 use Rattle.entry.specs.declared.Entry.{Entry}
 use Rattle.entry.specs.Entry.{plainEntry, Fits}
-use Rattle.store.specs.Roster.{keysOf, slotsOf, is, below}
+use Rattle.store.specs.Roster.{keysOf, slotsOf, is, below, LiesIn}
 use Rattle.ledger.specs.declared.Ledger.{Ledger}
 use Rattle.ledger.specs.Contents.{noEntry, entryIn, entriesOf, contents, Held, slotAt, lyingAt}
 
@@ -103,6 +103,18 @@ found-at l h t k e =
       known = w .known;
       key = λ d. sym (ap transactionOf (a .read noEntry d)) ∙ w .passes noEntry;
     }
+
+-- The same of the slot in which a transaction's entry lies.
+pub record Owed (l : Ledger) (t s : ℕ) : Type 0 where
+  pub slot : s < 48
+  pub fits : (d : Entry) → Fits (getD (l .entries) s d)
+  pub good : (d : Entry) → GoodEntry (contents l .local) (plainEntry (getD (l .entries) s d))
+  pub got : (d : Entry) → get transactionOf t (contents l .entries) ≡ some (plainEntry (getD (l .entries) s d))
+
+pub owed-in : (l : Ledger) → Held l → (t s : ℕ) → LiesIn (l .roster) t s → Owed l t s
+owed-in l h t s w =
+    let a = found-at l h t (w .at) (w .found) in
+    rw (w .slot) (record { slot = a .slot; fits = a .fits; good = a .good; got = a .got })
 
 pub not-found : (l : Ledger) → Held l → (t : ℕ) → place (is t) 0 (keysOf (l .roster)) ≡ Nothing → Missing transactionOf t (contents l .entries)
 unfolding contents

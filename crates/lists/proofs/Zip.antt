@@ -25,7 +25,7 @@ module _ {A B C : Type 0} (f : A → B → C) where
   getD-zip zero a b c (x ∷ xs) (y ∷ ys) h k = refl
   getD-zip (suc i) a b c (x ∷ xs) (y ∷ ys) h k = getD-zip i a b c xs ys (omega arith) (omega arith)
 
-  pub insert-zip : (k : ℕ) (a : A) (b : B) (xs : List A) (ys : List B) → k ≤ length xs → k ≤ length ys →
+  insert-zip : (k : ℕ) (a : A) (b : B) (xs : List A) (ys : List B) → k ≤ length xs → k ≤ length ys →
       zipBy f (insertAt k a xs) (insertAt k b ys) ≡ insertAt k (f a b) (zipBy f xs ys)
   insert-zip zero a b xs ys h k = refl
   insert-zip (suc i) a b [] ys h k = absurd (omega arith)
@@ -41,6 +41,12 @@ module _ {A B C : Type 0} (f : A → B → C) (xs : List A) (ys : List B) (n : �
   pairs-at a b c i l =
       getD-zip f i a b c (take n xs) (take n ys) (omega (arith, length-take-le n xs h)) (omega (arith, length-take-le n ys k))
       ∙ rw (getD-take n xs i a l, getD-take n ys i b l)
+
+  -- both with one put in at the same place
+  pub insert-pairs : (i : ℕ) (a : A) (b : B) (us : List A) (vs : List B) → i ≤ n → take (n + 1) us ≡ insertAt i a (take n xs) → take (n + 1) vs ≡ insertAt i b (take n ys) →
+      zipBy f (take (n + 1) us) (take (n + 1) vs) ≡ insertAt i (f a b) (zipBy f (take n xs) (take n ys))
+  insert-pairs i a b us vs l p q =
+      rw (p, q) (insert-zip f i a b (take n xs) (take n ys) (omega (arith, length-take-le n xs h)) (omega (arith, length-take-le n ys k)))
 
   pub pairs-cons : (a : A) (b : B) (i : ℕ) → i < n →
       drop i (zipBy f (take n xs) (take n ys)) ≡ f (getD xs i a) (getD ys i b) ∷ drop (i + 1) (zipBy f (take n xs) (take n ys))

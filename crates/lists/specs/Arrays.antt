@@ -1,13 +1,13 @@
 -- Lists kept in the front of an array: where something stands, and what putting in and taking out at a place does.
-use Prim.Native.Nat.{ℕ, suc}
+use Prim.Native.Nat.{ℕ, suc, _+_, _≤_}
 use mathlib.Core.Path.{_≡_}
 use mathlib.Core.Bool.{Bool, false, cond}
 use mathlib.Core.List.{List, [], _∷_, _++_}
-use lib.Dec.{eqb}
-use lib.ListN.{take, drop}
+use lib.Dec.{eqb, ltb}
+use lib.ListN.{length, take, drop}
 use Rattle.lists.specs.declared.Found.{Found}
 use Rattle.lists.specs.declared.Found.the-variants.{At, Nothing}
-use Rattle.lists.specs.Lists.{has, self}
+use Rattle.lists.specs.Lists.{has, include, self}
 
 module _ {A : Type 0} where
   abbrev pub insertAt : ℕ → A → List A → List A
@@ -35,3 +35,18 @@ leads key t (x ∷ l) = eqb (key x) t
 abbrev pub Distinct : List ℕ → Type 0
 Distinct [] = Unit {0}
 Distinct (x ∷ l) = (has self x l ≡ false) × Distinct l
+
+-- numbers lower than x
+abbrev pub under : ℕ → ℕ → Bool
+under x y = ltb y x
+
+-- b is a, with x put in at k among the first n
+pub record Inserted (a : List ℕ) (n k x : ℕ) (b : List ℕ) : Type 0 where
+  pub size : length b ≡ length a
+  pub front : take (n + 1) b ≡ insertAt k x (take n a)
+
+-- the first m of b are the first n of a with x among them
+pub record Included (a : List ℕ) (n x : ℕ) (b : List ℕ) (m : ℕ) : Type 0 where
+  pub size : length b ≡ length a
+  pub room : m ≤ length b
+  pub front : take m b ≡ include self x (take n a)

@@ -7,6 +7,7 @@ use mathlib.Core.List.{List, [], _∷_}
 use native.Mathlib.Omega.{arith}
 use borrow.Author.Tests.{ne-eqb, lt-ltb, ltb-true}
 use lib.Dec.{eqb, ltb}
+use lib.ListN.{getD}
 use Rattle.lists.proofs.Loops.{Missing}
 use Rattle.rules.specs.Plain as plain
 use Rattle.rules.specs.Plain.{Plain, transactionOf}
@@ -16,8 +17,8 @@ use Rattle.rules.specs.Readings.{Question, questionRefusal, lookup, ofEntry}
 use Rattle.entry.specs.declared.Entry.{Entry}
 use Rattle.entry.specs.Entry.{plainEntry}
 use Rattle.ledger.specs.declared.Ledger.{Ledger}
-use Rattle.ledger.specs.Contents.{contents, lyingAt}
-use Rattle.ledger.proofs.Places.{AtSlot}
+use Rattle.ledger.specs.Contents.{contents}
+use Rattle.ledger.proofs.Places.{Owed}
 use Rattle.readings.specs.declared.Answer.{Answer}
 use Rattle.readings.specs.Reads.{Reads}
 use Rattle.readings.specs.Answers.{Tells, Says, Refuses}
@@ -30,9 +31,9 @@ pub says : (a b : Bool) (p : Plain) (r : Answer) → Says a r → a ≡ b → Re
 says a b p r w e = record { refused = w .refused; answer = w .answer ∙ ap yesNo e; wrote = refl }
 
 -- a test of an entry that was found
-pub answered : (q : plain.Entry → Bool) (l : Ledger) (t k : ℕ) (d : Entry) (b : Bool) (r : Answer) → AtSlot l t k → Says b r →
-    b ≡ q (plainEntry (lyingAt l k d)) → Reads (lookup q t (contents l)) [] [] r
-answered q l t k d b r a w e = says b (ofEntry q (plain.entryOf t (contents l))) (contents l) r w (e ∙ ap (ofEntry q) (sym (a .got d)))
+pub answered : (q : plain.Entry → Bool) (l : Ledger) (t s : ℕ) (d : Entry) (b : Bool) (r : Answer) → Owed l t s → Says b r →
+    b ≡ q (plainEntry (getD (l .entries) s d)) → Reads (lookup q t (contents l)) [] [] r
+answered q l t s d b r a w e = says b (ofEntry q (plain.entryOf t (contents l))) (contents l) r w (e ∙ ap (ofEntry q) (sym (a .got d)))
 
 -- no for a transaction that is not owed
 pub unanswered : (q : plain.Entry → Bool) (l : Ledger) (t : ℕ) (r : Answer) → Missing transactionOf t (contents l .entries) → Says false r →

@@ -43,10 +43,9 @@ pub fn abandonment_answers(ledger: Ledger, tx: Transaction) -> Answer
     ensures { λ r. ⌜ Reads (read (abandonment (numberOf tx)) (contents ledger)) [] [] r ⌝ }
 {
     let roster = ledger.roster;
-    let Found::At(k) = roster.find(tx) else {
+    let Found::At(slot) = roster.slot_of(tx) else {
         return yes_no(false);
     };
-    let slot = roster.slots[k];
     let e = ledger.entries[slot];
     let part = e.part;
     yes_no(is_abandonable(part, e.certified, e.departed_by))
@@ -58,10 +57,9 @@ pub fn is_covered(ledger: Ledger, tx: Transaction) -> Answer
     ensures { λ r. ⌜ Reads (read (covered (numberOf tx)) (contents ledger)) [] [] r ⌝ }
 {
     let roster = ledger.roster;
-    let Found::At(k) = roster.find(tx) else {
+    let Found::At(slot) = roster.slot_of(tx) else {
         return yes_no(false);
     };
-    let slot = roster.slots[k];
     let e = ledger.entries[slot];
     yes_no(e.covered())
 }
@@ -72,10 +70,9 @@ pub fn departed(ledger: Ledger, tx: Transaction) -> Answer
     ensures { λ r. ⌜ Reads (read (departed (numberOf tx)) (contents ledger)) [] [] r ⌝ }
 {
     let roster = ledger.roster;
-    let Found::At(k) = roster.find(tx) else {
+    let Found::At(slot) = roster.slot_of(tx) else {
         return yes_no(false);
     };
-    let slot = roster.slots[k];
     yes_no(ledger.entries[slot].departed_by.0 > 0)
 }
 
@@ -85,10 +82,9 @@ pub fn executed(ledger: Ledger, tx: Transaction) -> Answer
     ensures { λ r. ⌜ Reads (read (executed (numberOf tx)) (contents ledger)) [] [] r ⌝ }
 {
     let roster = ledger.roster;
-    let Found::At(k) = roster.find(tx) else {
+    let Found::At(slot) = roster.slot_of(tx) else {
         return yes_no(false);
     };
-    let slot = roster.slots[k];
     yes_no(ledger.entries[slot].certified == 2)
 }
 
@@ -98,10 +94,9 @@ pub fn reaches_beyond(ledger: Ledger, tx: Transaction) -> Answer
     ensures { λ r. ⌜ Reads (read (reachesBeyond (numberOf tx)) (contents ledger)) [] [] r ⌝ }
 {
     let roster = ledger.roster;
-    let Found::At(k) = roster.find(tx) else {
+    let Found::At(slot) = roster.slot_of(tx) else {
         return yes_no(false);
     };
-    let slot = roster.slots[k];
     let e = ledger.entries[slot];
     yes_no(e.reaches_beyond(ledger.local))
 }

@@ -1,6 +1,7 @@
 pub mod Numbers
 pub mod Plain
 pub mod Words
+pub mod Widths
 pub mod Index
 pub mod Prune
 pub mod Outcome

@@ -2,39 +2,18 @@
 -- Assumes nothing.
 use Prim.Native.Nat.{ℕ, _+_, _≤_, _<_}
 use mathlib.Core.Path.{_≡_, refl, sym, ap, _∙_}
-use mathlib.Core.Bool.{Bool, true, false}
 use mathlib.Core.List.{List, [], _∷_, _++_, append-nil}
 use native.Mathlib.Numerals.{add-one}
 use native.Mathlib.Omega.{arith}
-use lib.ListN.{length, take, drop, set, length-set}
+use lib.ListN.{length, take, set, length-set}
 use lib.Seq.{length-take-le, take-suc-set, append-snoc}
-use Rattle.lists.specs.Lists.{has, include, includeAll, self, setOf}
-use Rattle.lists.specs.Arrays.{rank, leads}
-use Rattle.lists.proofs.Order.{ascending-include, include-known, length-includeAll}
-use Rattle.lists.proofs.Loops.{rank-le, include-rank}
-use Rattle.lists.proofs.Ranked.{at-rank}
-use Rattle.shard_lists.specs.Sets.{Set, made, front, under, Sized, Sound, Holds, Inserted}
+use Rattle.lists.specs.Lists.{include, includeAll, self, setOf}
+use Rattle.lists.proofs.Order.{length-includeAll}
+use Rattle.shard_lists.specs.Sets.{Set, made, front, Sized, Sound, Holds}
 use Rattle.lists.proofs.Sets.{first-put}
 
 pub front-length : (s : Set) → Sized s → length (front s) ≡ s .len
 front-length s h = length-take-le (s .len) (s .items) (omega (arith, h .room, h .size))
-
--- Putting one in.
-
-module _ (s : Set) (x : ℕ) (h : Sound s) (k : ℕ) (q : k ≡ rank (under x) (front s)) where
-  pub rank-room : k ≤ s .len
-  rank-room = omega (arith, q, rank-le (under x) (front s), front-length s (h .sized))
-
-  seen : (b r : Bool) → r ≡ leads self x (drop k (front s)) → r ≡ b → has self x (front s) ≡ b
-  seen b r e t = at-rank self x (front s) (h .rising) ∙ ap (λ i. leads self x (drop i (front s))) (sym q) ∙ sym e ∙ t
-
-  pub known-in : (r : Bool) → r ≡ leads self x (drop k (front s)) → r ≡ true → Holds (include self x (front s)) s
-  known-in r e t = record { sound = h; holds = sym (include-known self x (front s) (h .rising) (seen true r e t)) }
-
-  pub put-in : (r : Bool) (w : Set) → r ≡ leads self x (drop k (front s)) → r ≡ false → Inserted s k x w → Holds (include self x (front s)) w
-  put-in r w b t o =
-      let e : front w ≡ include self x (front s) = o .holds ∙ rw q (include-rank self x (front s) (seen false r b t)) in
-      record { sound = record { sized = o .sized; rising = rw e (ascending-include self x (front s) (h .rising)) }; holds = e }
 
 -- A loop that gathers.
 

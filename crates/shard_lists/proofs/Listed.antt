@@ -11,7 +11,7 @@ use lib.ListN.{length, take, getD}
 use lib.Seq.{length-take-le}
 use Rattle.lists.specs.Arrays.{place}
 use Rattle.lists.proofs.Sets.{concatMap-single}
-use Rattle.lists.specs.declared.Found.the-variants.{At, Nothing}
+use Rattle.lists.specs.declared.Found.the-variants.{Nothing}
 use Rattle.rules.specs.Plain as plain
 use Rattle.rules.specs.Plain.{Plain, entryOf}
 use Rattle.rules.specs.Readings.{listing, single, listOf, read, listUnstamped, listCounterparts, unstampedDepartures, counterparts, counterpartsOf, depthRefusal}
@@ -21,7 +21,7 @@ use Rattle.store.specs.Departures.{onFile}
 use Rattle.store.specs.Roster.{keysOf, is}
 use Rattle.ledger.specs.declared.Ledger.{Ledger}
 use Rattle.ledger.specs.Contents.{contents, Held}
-use Rattle.ledger.proofs.Places.{found-at, not-found}
+use Rattle.ledger.proofs.Places.{Owed, not-found}
 use Rattle.readings.specs.declared.Answer.{Answer}
 use Rattle.readings.specs.Reads.{Reads}
 use Rattle.readings.specs.Answers.{Tells, Refuses, Lists}
@@ -30,17 +30,6 @@ use Rattle.shard_lists.specs.Sets.{Set, front, Holds, unstampedOn, count
 
 pub routes-room : {e : Entry} → Fits e → e .«routes_len» ≤ length (e .routes)
 routes-room {e} f = omega (arith, f .routesLen, f .routes)
-
--- an owed transaction: its place in the roster and its slot
-pub record Owed (l : Ledger) (t k : ℕ) : Type 0 where
-  pub place : k < 48
-  pub slot : getD (l .roster .slots) k 0 < 48
-  pub fits : (d : Entry) → Fits (getD (l .entries) (getD (l .roster .slots) k 0) d)
-
-pub owed-at : (l : Ledger) → Held l → (t k : ℕ) → place (is t) 0 (keysOf (l .roster)) ≡ At k → Owed l t k
-owed-at l h t k e =
-    let a = found-at l h t k e in
-    record { place = omega (arith, a .place, h .roster .room); slot = a .slot; fits = a .fits }
 
 -- one word an item: the items written out are the list
 alone : (items lent after : List ℕ) (r : Answer) (p : Plain) (m : ℕ) → m ≡ 0 → Lists items (length items) lent after r →
@@ -61,11 +50,11 @@ module _ (l : Ledger) (h : Held l) (t : ℕ) (lent : List ℕ) (f : plain.Entry 
       Reads (listing m (length lent) single (listOf f (entryOf t (contents l))) (contents l)) lent lent r
   not-owed r e w = rw (not-found l h t e .got) (alone [] lent lent r (contents l) m z (nothing lent r w))
 
-  pub of-owed : (k : ℕ) (d : Entry) (items after : List ℕ) (n : ℕ) (r : Answer) → place (is t) 0 (keysOf (l .roster)) ≡ At k → n ≤ length items →
-      take n items ≡ f (plainEntry (getD (l .entries) (getD (l .roster .slots) k 0) d)) → Lists (take n items) n lent after r →
+  pub of-owed : (s : ℕ) (d : Entry) (items after : List ℕ) (n : ℕ) (r : Answer) → Owed l t s → n ≤ length items →
+      take n items ≡ f (plainEntry (getD (l .entries) s d)) → Lists (take n items) n lent after r →
       Reads (listing m (length lent) single (listOf f (entryOf t (contents l))) (contents l)) lent after r
-  of-owed k d items after n r e b q w =
-      rw (found-at l h t k e .got d, sym q) (alone (take n items) lent after r (contents l) m z (first items lent after n r b w))
+  of-owed s d items after n r e b q w =
+      rw (e .got d, sym q) (alone (take n items) lent after r (contents l) m z (first items lent after n r b w))
 
 pub set-room : {l : List ℕ} {s : Set} → Holds l s → s .len ≤ length (s .items)
 set-room h = omega (arith, h .sound .sized .room, h .sound .sized .size)
@@ -89,8 +78,8 @@ module _ (l : Ledger) (h : Held l) (t d : ℕ) (lent : List ℕ) where
   unfolding counterparts
   no-counterparts r b e w = not-owed l h t lent (counterpartsOf (contents l) d) (depthRefusal d) (shallow b) r e w
 
-  pub of-counterparts : d ≤ 32 → (k : ℕ) (x : Entry) (s : Set) (after : List ℕ) (r : Answer) → place (is t) 0 (keysOf (l .roster)) ≡ At k →
-      Holds (counterpartsAt (l .local .0) (onFile (l .departures)) d (plainEntry (getD (l .entries) (getD (l .roster .slots) k 0) x))) s →
+  pub of-counterparts : d ≤ 32 → (k : ℕ) (x : Entry) (s : Set) (after : List ℕ) (r : Answer) → Owed l t k →
+      Holds (counterpartsAt (l .local .0) (onFile (l .departures)) d (plainEntry (getD (l .entries) k x))) s →
       Lists (front s) (s .len) lent after r → Reads (read (listCounterparts t d (length lent)) (contents l)) lent after r
   unfolding counterparts contents
   of-counterparts b k x s after r e q w =

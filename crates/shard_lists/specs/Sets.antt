@@ -6,7 +6,6 @@ use mathlib.Core.List.{List, _∷_, map}
 use lib.Dec.{ltb}
 use lib.ListN.{length, take}
 use Rattle.lists.specs.Lists.{keep, any, concatMap, Every, Ascending, self, setOf}
-use Rattle.lists.specs.Arrays.{insertAt}
 use Rattle.rules.specs.Numbers.{owns, shardForRoute}
 use Rattle.rules.specs.Plain as plain
 use Rattle.rules.specs.Plain.{shardOf, remote}
@@ -27,9 +26,6 @@ made items n = record { items = items; len = n }
 abbrev pub front : Set → List ℕ
 front s = take (s .len) (s .items)
 
-abbrev pub under : ℕ → ℕ → Bool
-under x y = ltb y x
-
 pub record Sized (s : Set) : Type 0 where
   pub room : s .len ≤ 40
   pub size : length (s .items) ≡ 40
@@ -42,11 +38,6 @@ pub record Sound (s : Set) : Type 0 where
 pub record Holds (l : List ℕ) (s : Set) : Type 0 where
   pub sound : Sound s
   pub holds : front s ≡ l
-
--- x was put in at k
-pub record Inserted (s₀ : Set) (k x : ℕ) (s : Set) : Type 0 where
-  pub sized : Sized s
-  pub holds : front s ≡ insertAt k x (front s₀)
 
 -- the first n of an array of eight are just these
 pub record Eight (l a : List ℕ) (n : ℕ) : Type 0 where

@@ -70,10 +70,9 @@ pub fn reach(ledger: Ledger, tx: Transaction, lent: &mut [u64]) -> Answer
     ensures { λ r. ⌜ Reads (read (rules.reach (numberOf tx) (length (now (lent .entry)))) (contents ledger)) (now (lent .entry)) (now (lent .exit)) r ⌝ }
 {
     let roster = ledger.roster;
-    let Found::At(k) = roster.find(tx) else {
+    let Found::At(slot) = roster.slot_of(tx) else {
         return answer(0);
     };
-    let slot = roster.slots[k];
     let e = ledger.entries[slot];
     let routes = e.routes;
     let n = e.routes_len as usize;
@@ -111,10 +110,9 @@ pub fn claimants(ledger: Ledger, tx: Transaction, r: RecordKey, lent: &mut [u64]
     ensures { λ x. ⌜ Reads (read (rules.listClaimants (numberOf tx) (r .0) (length (now (lent .entry)))) (contents ledger)) (now (lent .entry)) (now (lent .exit)) x ⌝ }
 {
     let roster = ledger.roster;
-    let Found::At(k) = roster.find(tx) else {
+    let Found::At(slot) = roster.slot_of(tx) else {
         return answer(0);
     };
-    let slot = roster.slots[k];
     let e = ledger.entries[slot];
     let mut items = [0u64; 40];
     let n = destinations(e, ledger.local, r, &mut items);
@@ -227,10 +225,9 @@ pub fn counterparts(ledger: Ledger, tx: Transaction, depth: u64, lent: &mut [u64
         return refusal(5);
     }
     let roster = ledger.roster;
-    let Found::At(k) = roster.find(tx) else {
+    let Found::At(slot) = roster.slot_of(tx) else {
         return answer(0);
     };
-    let slot = roster.slots[k];
     let e = ledger.entries[slot];
     let mut items = [0u64; 40];
     let n = beyond(e, ledger.departures, ledger.local, depth as u32, &mut items);

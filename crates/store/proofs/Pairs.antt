@@ -20,7 +20,7 @@ pub sides-front : (x : Issuers) → take (x .len) (sides x) ≡ pairsIn x
 sides-front x = zip-take pair (x .len) (x .records) (x .transactions)
 
 module _ (x : Issuers) where
-  pub sides-length : Sound x → length (sides x) ≡ 384
+  sides-length : Sound x → length (sides x) ≡ 384
   sides-length h = zip-length pair (x .records) (x .transactions) (h .recordLength ∙ sym (h .transactionLength)) ∙ h .recordLength
 
   sides-at : (i d e : ℕ) → Sound x → getD (sides x) i (pair d e) ≡ pair (getD (x .records) i d) (getD (x .transactions) i e)

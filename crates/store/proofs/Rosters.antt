@@ -5,9 +5,13 @@ use mathlib.Core.Path.{_≡_}
 use mathlib.Core.Bool.{false}
 use native.Mathlib.Omega.{arith}
 use lib.ListN.{getD}
+use lib.Seq.{length-take-le}
 use Rattle.lists.specs.Lists.{has, self}
+use Rattle.lists.specs.Arrays.{place}
+use Rattle.lists.specs.declared.Found.the-variants.{At}
 use Rattle.lists.proofs.Distinct.{every-at, take-lacks}
-use Rattle.store.specs.Roster.{Sound, slotsOf, freeSlot}
+use Rattle.lists.proofs.Loops.{located}
+use Rattle.store.specs.Roster.{Sound, keysOf, slotsOf, freeSlot, is}
 use Rattle.store.specs.declared.roster.Roster.{Roster}
 
 pub free-slot : (r : Roster) → Sound r → r .len < 48 → (freeSlot r < 48) × (has self (freeSlot r) (slotsOf r) ≡ false)
@@ -18,3 +22,7 @@ free-slot r s h = (
 
 pub slot-within : (r : Roster) (k : ℕ) → Sound r → k < r .len → getD (r .slots) k 0 < 48
 slot-within r k s h = every-at (λ x. x < 48) 0 k (r .slots) (omega (arith, s .slotLength, s .room)) (s .within)
+
+pub found-below : (r : Roster) (t k : ℕ) → Sound r → place (is t) 0 (keysOf r) ≡ At k → k < r .len
+found-below r t k s e =
+    omega (arith, located self t (keysOf r) k e .below, length-take-le (r .len) (r .keys) (omega (arith, s .room, s .keyLength)))

@@ -6,6 +6,7 @@ use mathlib.Core.List.{List}
 use lib.Dec.{eqb, ltb}
 use lib.ListN.{length, take}
 use Rattle.lists.specs.Lists.{zipBy, include, Every, Ascending}
+use Rattle.lists.specs.Arrays.{rank}
 use Rattle.rules.specs.Index.{Pair, pairKey}
 use Rattle.store.specs.declared.issuers.Issuers.{Issuers}
 
@@ -53,3 +54,17 @@ roomFor x r t = length (include pairKey (pair r t) (pairsIn x)) ≤ 384
 pub record Holds (ps : List Pair) (x : Issuers) : Type 0 where
   pub sound : Sound x
   pub pairs : pairsIn x ≡ ps
+
+-- what the search for a pair asks: a sound index, rising, of words; with where the pair ranks; with room for it
+abbrev pub Indexed : Issuers → Type 0
+Indexed x = Sound x × Rising x × Worded x
+
+abbrev pub RanksAt : Issuers → (r t k : ℕ) → Type 0
+RanksAt x r t k = Sound x × Rising x × Worded x × (k ≡ rank (isBefore r t) (pairsIn x))
+
+abbrev pub HasRoom : Issuers → (r t : ℕ) → Type 0
+HasRoom x r t = Sound x × Rising x × Worded x × roomFor x r t
+
+-- the pair was put in, unless it stood already
+abbrev pub PutIn : Issuers → (r t : ℕ) → Issuers → Type 0
+PutIn x r t y = Holds (include pairKey (pair r t) (pairsIn x)) y × Worded y

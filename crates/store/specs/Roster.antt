@@ -6,7 +6,9 @@ use mathlib.Core.List.{List}
 use lib.Dec.{eqb, ltb}
 use lib.ListN.{length, take, getD}
 use Rattle.lists.specs.Lists.{Every, keepBy}
-use Rattle.lists.specs.Arrays.{insertAt, removeAt, Distinct}
+use Rattle.lists.specs.Arrays.{place, insertAt, removeAt, Distinct}
+use Rattle.lists.specs.declared.Found.{Found}
+use Rattle.lists.specs.declared.Found.the-variants.{At, Nothing}
 use Rattle.store.specs.declared.roster.Roster.{Roster}
 
 abbrev pub keysOf : Roster → List ℕ
@@ -32,6 +34,18 @@ pub record Sound (r : Roster) : Type 0 where
   pub slotLength : length (r .slots) ≡ 48
   pub within : Every (λ s. s < 48) (r .slots)
   pub distinct : Distinct (r .slots)
+
+-- the transaction stands at a place, and that place's slot, one of the forty-eight, is s
+pub record LiesIn (r : Roster) (t s : ℕ) : Type 0 where
+  pub at : ℕ
+  pub found : place (is t) 0 (keysOf r) ≡ At at
+  pub slot : s ≡ getD (r .slots) at 0
+  pub small : s < 48
+
+-- what looking for its slot says
+abbrev pub SlotOf : Roster → ℕ → Found → Type 0
+SlotOf r t (At s) = LiesIn r t s
+SlotOf r t Nothing = place (is t) 0 (keysOf r) ≡ Nothing
 
 pub record Fresh (r : Roster) : Type 0 where
   pub sound : Sound r

@@ -1,13 +1,13 @@
 // The issuer index: which owed transactions issued the record at a key, as pairs by record and then transaction, none twice.
 ghost use mathlib.Core.Path.{_≡_};
-ghost use Prim.Native.Nat.{_+_, _≤_, _<_};
 ghost use mathlib.Core.List.{[]};
 ghost use lib.ListN.{take};
-ghost use Rattle.lists.specs.Lists.{keep, keepBy, include};
-ghost use Rattle.lists.specs.Arrays.{insertAt, rank};
-ghost use Rattle.rules.specs.Index.{pairKey, names};
-ghost use Rattle.store.specs.Issuers.{Sound, Rising, Holds, pairsIn, pair, isPair, isNot, roomFor, leadsPair, isBefore, Worded, made};
+ghost use Rattle.lists.specs.Lists.{keep, keepBy};
+ghost use Rattle.lists.specs.Arrays.{rank};
+ghost use Rattle.rules.specs.Index.{names};
+ghost use Rattle.store.specs.Issuers.{Sound, Rising, Holds, pairsIn, pair, isPair, isNot, leadsPair, isBefore, made, Indexed, RanksAt, HasRoom, PutIn};
 ghost use Rattle.types.specs.Transactions.{numberOf};
+use lists::sorted::insert_at;
 use types::RecordKey;
 use types::Transaction;
 
@@ -27,7 +27,7 @@ fn leads(a: RecordKey, b: Transaction, r: RecordKey, t: Transaction) -> bool
     if r.0 < a.0 {
         return false;
     }
-    b.0 < t.0
+    b.precedes(t)
 }
 
 // Whether the pair (a, b) is (r, t).
@@ -35,7 +35,7 @@ fn is_pair(a: RecordKey, b: Transaction, r: RecordKey, t: Transaction) -> bool
     ensures { λ x. ⌜ x ≡ isPair (r .0) (numberOf t) (pair (a .0) (numberOf b)) ⌝ }
 {
     if a.0 == r.0 {
-        return b.0 == t.0;
+        return b.is(t);
     }
     false
 }
@@ -48,7 +48,7 @@ fn rank(
     r: RecordKey,
     t: Transaction,
 ) -> usize
-    requires { ⌜ Sound (made (now records) (now transactions) n) × Rising (made (now records) (now transactions) n) × Worded (made (now records) (now transactions) n) ⌝ }
+    requires { ⌜ Indexed (made (now records) (now transactions) n) ⌝ }
     ensures { λ x. ⌜ x ≡ rank (isBefore (r .0) (numberOf t)) (pairsIn (made (now (records .entry)) (now (transactions .entry)) n)) ⌝ }
 {
     let mut low: usize = 0;
@@ -78,36 +78,13 @@ fn stands_at(
     r: RecordKey,
     t: Transaction,
 ) -> bool
-    requires { ⌜ Sound (made (now records) (now transactions) n) × Rising (made (now records) (now transactions) n) × Worded (made (now records) (now transactions) n) × (k ≡ rank (isBefore (r .0) (numberOf t)) (pairsIn (made (now records) (now transactions) n))) ⌝ }
+    requires { ⌜ RanksAt (made (now records) (now transactions) n) (r .0) (numberOf t) k ⌝ }
     ensures { λ x. ⌜ x ≡ names (pairsIn (made (now (records .entry)) (now (transactions .entry)) n)) (r .0) (numberOf t) ⌝ }
 {
     if k < n {
         return is_pair(RecordKey(records[k]), Transaction(transactions[k]), r, t);
     }
     false
-}
-
-// A pair put in at k among the first n: those from k on move up by one, from the end.
-fn insert_at(
-    records: &mut [u64; 384],
-    transactions: &mut [u64; 384],
-    n: usize,
-    k: usize,
-    r: RecordKey,
-    t: Transaction,
-)
-    requires { ⌜ Sound (made (now records) (now transactions) n) × (k ≤ n) × (n < 384) ⌝ }
-    ensures { λ x. ⌜ Holds (insertAt k (pair (r .0) (numberOf t)) (pairsIn (made (now (records .entry)) (now (transactions .entry)) n))) (made (now (records .exit)) (now (transactions .exit)) (n + 1)) ⌝ }
-{
-    let mut i = n;
-    while k < i {
-        let j = i - 1;
-        records[i] = records[j];
-        transactions[i] = transactions[j];
-        i = j;
-    }
-    records[k] = r.0;
-    transactions[k] = t.0;
 }
 
 // The pair put in among the first n, unless it stands already; how many there are then. The arrays are lent, so that an admission names
@@ -119,14 +96,15 @@ pub fn name(
     r: RecordKey,
     t: Transaction,
 ) -> usize
-    requires { ⌜ Sound (made (now records) (now transactions) n) × Rising (made (now records) (now transactions) n) × Worded (made (now records) (now transactions) n) × roomFor (made (now records) (now transactions) n) (r .0) (numberOf t) ⌝ }
-    ensures { λ x. ⌜ Holds (include pairKey (pair (r .0) (numberOf t)) (pairsIn (made (now (records .entry)) (now (transactions .entry)) n))) (made (now (records .exit)) (now (transactions .exit)) x) × Worded (made (now (records .exit)) (now (transactions .exit)) x) ⌝ }
+    requires { ⌜ HasRoom (made (now records) (now transactions) n) (r .0) (numberOf t) ⌝ }
+    ensures { λ x. ⌜ PutIn (made (now (records .entry)) (now (transactions .entry)) n) (r .0) (numberOf t) (made (now (records .exit)) (now (transactions .exit)) x) ⌝ }
 {
     let k = rank(records, transactions, n, r, t);
     if stands_at(records, transactions, n, k, r, t) {
         return n;
     }
-    insert_at(records, transactions, n, k, r, t);
+    insert_at(records, n, k, r.0);
+    insert_at(transactions, n, k, t.0);
     n + 1
 }
 
@@ -185,7 +163,8 @@ impl Issuers {
         let mut stay = [false; 384];
         let mut i: usize = 0;
         while i < n {
-            stay[i] = self.transactions[i] != t.0;
+            let other = Transaction(self.transactions[i]);
+            stay[i] = !other.is(t);
             i += 1;
         }
         self.retain(stay)

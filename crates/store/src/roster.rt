@@ -4,7 +4,7 @@ ghost use mathlib.Core.Path.{_≡_};
 ghost use Prim.Native.Nat.{_≤_, _<_};
 ghost use lib.ListN.{take};
 ghost use Rattle.lists.specs.Arrays.{place, rank};
-ghost use Rattle.store.specs.Roster.{Sound, Fresh, Inserted, Removed, Retained, keysOf, is, below};
+ghost use Rattle.store.specs.Roster.{Sound, SlotOf, Fresh, Inserted, Removed, Retained, keysOf, is, below};
 ghost use Rattle.types.specs.Transactions.{numberOf};
 use lists::Found;
 use types::Transaction;
@@ -85,7 +85,8 @@ impl Roster {
         let n = self.len;
         let mut i: usize = 0;
         while i < n {
-            if self.keys[i] == tx.0 {
+            let other = Transaction(self.keys[i]);
+            if other.is(tx) {
                 return Found::At(i);
             }
             i += 1;
@@ -93,20 +94,23 @@ impl Roster {
         Found::Nothing
     }
 
+    // The slot in which the transaction's entry lies.
+    pub fn slot_of(self, tx: Transaction) -> Found
+        requires { ⌜ Sound self ⌝ }
+        ensures { λ r. ⌜ SlotOf self (numberOf tx) r ⌝ }
+    {
+        let Found::At(k) = self.find(tx) else {
+            return Found::Nothing;
+        };
+        Found::At(self.slots[k])
+    }
+
     // How many stand before the transaction: where it is to be put in.
     pub fn rank(self, tx: Transaction) -> usize
         requires { ⌜ Sound self ⌝ }
         ensures { λ r. ⌜ r ≡ rank (below (numberOf tx)) (keysOf self) ⌝ }
     {
-        let n = self.len;
-        let mut i: usize = 0;
-        while i < n {
-            if self.keys[i] >= tx.0 {
-                return i;
-            }
-            i += 1;
-        }
-        i
+        lists::sorted::rank(&self.keys, self.len, tx.0)
     }
 
     // The transaction put in at a place, with the first slot that is not in use.

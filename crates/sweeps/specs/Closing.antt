@@ -5,8 +5,10 @@ use mathlib.Core.Bool.{Bool, not}
 use mathlib.Core.List.{List, [], _∷_, map}
 use lib.ListN.{length, take}
 use Rattle.lists.specs.Lists.{keep}
+use Rattle.rules.specs.Widths.{closeSize}
 use Rattle.rules.specs.Plain.{Entry}
 use Rattle.rules.specs.Entries.{isClosed, closingDecision}
+use Rattle.rules.specs.Calls.{afterCloses}
 use Rattle.store.specs.declared.roster.Roster.{Roster}
 use Rattle.store.specs.declared.issuers.Issuers.{Issuers}
 use Rattle.store.specs.Roster as rosters
@@ -14,7 +16,8 @@ use Rattle.store.specs.Roster.{keysOf}
 use Rattle.store.specs.Issuers as issuers
 use Rattle.ledger.specs.declared.Ledger.{Ledger}
 use Rattle.ledger.specs.declared.Done.{Done}
-use Rattle.ledger.specs.Contents.{entriesOf, withParts}
+use Rattle.ledger.specs.Contents.{entriesOf, contents, Held, withParts}
+use Rattle.ledger.specs.Meets.{Meets}
 use Rattle.sweeps.specs.declared.closes.Closing.{Closing}
 use Rattle.sweeps.specs.declared.closes.Closed.{Closed}
 use Rattle.sweeps.specs.Leaving.{listedBy}
@@ -37,8 +40,15 @@ pub record Listable (c : Closing) (r : Roster) (x : Issuers) : Type 0 where
   pub roster : rosters.Sound r
   pub issuers : issuers.Sound x
   pub few : c .count ≤ 48
-  pub size : length (listed r c) ≡ 2 * c .count
+  pub size : length (listed r c) ≡ closeSize * c .count
 
 -- what closes says, with the changed parts in the ledger
 abbrev pub put : Ledger → Closed → Done
 put l c = record { refused = c .refused; answers = c .answer ∷ 0 ∷ 0 ∷ []; ledger = withParts l (l .rebuilt) (c .roster) (l .entries) (c .issuers) (l .departures) }
+
+-- in every ledger that has these parts and was judged so, the call is answered by them
+abbrev pub Closes : Closing → Roster → Issuers → (lent after : List ℕ) → Closed → Type 0
+Closes c roster issuers lent after r =
+    (l : Ledger) →
+    let whole = withParts l (l .rebuilt) roster (l .entries) issuers (l .departures) in
+    Held whole → Judges whole c → Meets (afterCloses (length lent) (contents whole)) lent after (put l r)

@@ -6,15 +6,16 @@ ghost use lib.ListN.{length, take};
 ghost use lib.Seq.{sets};
 ghost use Rattle.rules.specs.Calls.{afterCloses};
 ghost use Rattle.ledger.specs.declared.Ledger.{Ledger};
-ghost use Rattle.ledger.specs.Contents.{Held, contents, withParts};
+ghost use Rattle.ledger.specs.Contents.{Held, contents};
 ghost use Rattle.ledger.specs.Meets.{Meets};
 ghost use Rattle.sweeps.specs.Leaving.{listedBy};
-ghost use Rattle.sweeps.specs.Closing.{Judges, Listable, put};
+ghost use Rattle.sweeps.specs.Closing.{Listable, Closes};
 use crate::leaving::without_dropped;
 use ledger::Done;
 use ledger::Ledger;
 use store::issuers::Issuers;
 use store::roster::Roster;
+use types::widths::CLOSE_WORDS;
 
 // By place in the roster who stays and the decision of each, and how many do not stay.
 pub struct Closing {
@@ -60,9 +61,9 @@ pub struct Closed {
 // What was judged carried out, unless the lent list is too short: of any ledger that has these parts and was judged so.
 fn apply_closing(c: Closing, roster: Roster, issuers: Issuers, lent: &mut [u64]) -> Closed
     requires { ⌜ Listable c roster issuers ⌝ }
-    ensures { λ r. ⌜ ((l : Ledger) → Held (withParts l (l .rebuilt) roster (l .entries) issuers (l .departures)) → Judges (withParts l (l .rebuilt) roster (l .entries) issuers (l .departures)) c → Meets (afterCloses (length (now (lent .entry))) (contents (withParts l (l .rebuilt) roster (l .entries) issuers (l .departures)))) (now (lent .entry)) (now (lent .exit)) (put l r)) ⌝ }
+    ensures { λ r. ⌜ Closes c roster issuers (now (lent .entry)) (now (lent .exit)) r ⌝ }
 {
-    if (lent.len() as u64) < 2 * c.count {
+    if (lent.len() as u64) < (CLOSE_WORDS as u64) * c.count {
         return Closed {
             refused: 9,
             answer: 0,

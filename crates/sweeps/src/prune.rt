@@ -2,18 +2,18 @@
 ghost use Prim.Native.Nat.{_≤_, _<_};
 ghost use mathlib.Core.Path.{_≡_};
 ghost use mathlib.Core.Bool.{true, not};
-ghost use mathlib.Core.List.{List};
 ghost use lib.ListN.{length, take};
 ghost use lib.Seq.{sets};
-ghost use Rattle.lists.specs.Lists.{zipBy, any, Every};
+ghost use Rattle.lists.specs.Lists.{any, Every};
 ghost use Rattle.rules.specs.Plain as plain;
 ghost use Rattle.rules.specs.Numbers.{isShard};
 ghost use Rattle.rules.specs.Calls.{afterPrune};
+ghost use Rattle.rules.specs.Widths.{reportRoom};
 ghost use Rattle.entry.specs.Entry.{plainEntry, Fits};
 ghost use Rattle.ledger.specs.declared.Ledger.{Ledger};
-ghost use Rattle.ledger.specs.Contents.{Held, contents, withParts};
+ghost use Rattle.ledger.specs.Contents.{Held, contents};
 ghost use Rattle.ledger.specs.Meets.{Meets};
-ghost use Rattle.sweeps.specs.Pruning.{orHolds, Columns, begun, Judges, refusalBy, Prunable, put};
+ghost use Rattle.sweeps.specs.Pruning.{begun, refusalBy, Prunable, Needed, Prunes};
 use crate::leaving::without_dropped;
 use entry::Entry;
 use judge::routes::needs;
@@ -28,6 +28,8 @@ use store::roster::Roster;
 use types::Shard;
 use types::Time;
 use types::is_time;
+use types::widths::REPORT_WORDS;
+use types::widths::REPORTS_ROOM;
 
 // By place in the roster who stays, by place on file which departures those who stay need, whether some departure may still be
 // unneeded, the words of the reports, and how many reports and how many fell.
@@ -35,7 +37,7 @@ pub struct Pruning {
     pub stay: [bool; 48],
     pub needed: [bool; 32],
     pub some_unneeded: bool,
-    pub words: [u64; 144],
+    pub words: [u64; REPORTS_ROOM],
     pub reports: usize,
     pub fallen: u64,
 }
@@ -48,7 +50,7 @@ impl Pruning {
             stay: [false; 48],
             needed: [false; 32],
             some_unneeded: true,
-            words: [0u64; 144],
+            words: [0u64; REPORTS_ROOM],
             reports: 0,
             fallen: 0,
         }
@@ -68,7 +70,7 @@ fn with_needs<'a>(
     requires { ⌜ Fits e ⌝ }
     requires { ⌜ isShard (local .0) ≡ true ⌝ }
     requires { ⌜ (n ≤ 32) × (length (now shards) ≡ 32) × (length (now zeros) ≡ 32) × (length (now cuts) ≡ 32) × Every (λ z. z < 64) (now zeros) ⌝ }
-    ensures { λ r. ⌜ ((ds : List plain.Departure) → Columns ds (now (shards .entry)) (now (zeros .entry)) (now (cuts .entry)) n → take n r ≡ zipBy (orHolds (local .0) (plainEntry e)) (take n flags) ds) ⌝ }
+    ensures { λ r. ⌜ Needed (local .0) (plainEntry e) (now (shards .entry)) (now (zeros .entry)) (now (cuts .entry)) n flags r ⌝ }
 {
     let mut out = flags;
     let mut j: usize = 0;
@@ -99,8 +101,8 @@ fn some_down(flags: [bool; 32], n: usize) -> bool
 }
 
 // The first n words to the front of the lent list.
-fn write_reports(words: [u64; 144], n: usize, lent: &mut [u64])
-    requires { ⌜ (n ≤ 144) × (n ≤ length (now lent)) ⌝ }
+fn write_reports(words: [u64; REPORTS_ROOM], n: usize, lent: &mut [u64])
+    requires { ⌜ (n ≤ reportRoom) × (n ≤ length (now lent)) ⌝ }
     ensures { λ r. ⌜ now (lent .exit) ≡ sets (now (lent .entry)) 0 (take n words) ⌝ }
 {
     let mut i: usize = 0;
@@ -118,7 +120,7 @@ fn refusal(time: Time, reports: usize, room: usize) -> u64
     if !is_time(time.0) {
         return 3;
     }
-    if room < 3 * reports { 9 } else { 0 }
+    if room < REPORT_WORDS * reports { 9 } else { 0 }
 }
 
 // What a prune says, and the parts of the ledger that it changes.
@@ -140,7 +142,7 @@ fn apply_pruning(
     lent: &mut [u64],
 ) -> Pruned
     requires { ⌜ Prunable p roster issuers departures ⌝ }
-    ensures { λ r. ⌜ ((l : Ledger) → Held (withParts l (l .rebuilt) roster (l .entries) issuers departures) → Judges (withParts l (l .rebuilt) roster (l .entries) issuers departures) (time .0) p → Meets (afterPrune (time .0) (length (now (lent .entry))) (contents (withParts l (l .rebuilt) roster (l .entries) issuers departures))) (now (lent .entry)) (now (lent .exit)) (put l r)) ⌝ }
+    ensures { λ r. ⌜ Prunes p roster issuers departures (time .0) (now (lent .entry)) (now (lent .exit)) r ⌝ }
 {
     let refused = refusal(time, p.reports, lent.len());
     if 0 < refused {
@@ -155,7 +157,7 @@ fn apply_pruning(
     let stay = p.stay;
     let needed = p.needed;
     let words = p.words;
-    write_reports(words, 3 * p.reports, lent);
+    write_reports(words, REPORT_WORDS * p.reports, lent);
     Pruned {
         refused: 0,
         answers: [p.reports as u64, p.fallen, 0],
@@ -201,7 +203,7 @@ pub fn prune(mut ledger: Ledger, time: Time, lent: &mut [u64]) -> Done
             }
             Verdict::Falls => p.fallen += 1,
             Verdict::Reported(covered) => {
-                let at = 3 * p.reports;
+                let at = REPORT_WORDS * p.reports;
                 p.words[at] = e.tx.0;
                 p.words[at + 1] = covered;
                 p.words[at + 2] = e.charge;

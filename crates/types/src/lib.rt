@@ -1,8 +1,10 @@
 // Times, shards, transactions and record keys: a tuple struct around each number, so that none passes for another. Their checks,
 // a shard's depth and the routes it owns, record keys and cell keys.
+pub mod widths;
+
 ghost use mathlib.Core.Path.{_≡_};
 ghost use mathlib.Core.Bool.{true};
-ghost use lib.Dec.{eqb, leb};
+ghost use lib.Dec.{eqb, ltb, leb};
 ghost use Rattle.rules.specs.Numbers.{isTime, isShard, isSpan, depth, owns, shardForRoute, recordKey, cellKey};
 ghost use Rattle.types.specs.Transactions.{numberOf};
 
@@ -49,6 +51,13 @@ impl Transaction {
         ensures { λ r. ⌜ r ≡ eqb (numberOf self) (numberOf other) ⌝ }
     {
         self.0 == other.0
+    }
+
+    // Whether it stands before the other in every list.
+    pub fn precedes(self, other: Transaction) -> bool
+        ensures { λ r. ⌜ r ≡ ltb (numberOf self) (numberOf other) ⌝ }
+    {
+        self.0 < other.0
     }
 }
 

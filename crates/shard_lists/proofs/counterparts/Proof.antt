@@ -1,19 +1,20 @@
 -- The shards gathered are written out; a depth over 32 is refused first, and a transaction not owed has none.
 -- Assumes nothing.
-use mathlib.Core.Path.{sym, _∙_}
+use mathlib.Core.Path.{sym}
 use native.Mathlib.Omega.{arith}
 use Rattle.ledger.specs.Contents.{contents}
 use borrow.Author.Tests.{le-leb}
-use Rattle.shard_lists.proofs.Listed.{Owed, owed-at, too-deep, no-counterparts, set-room, of-counterparts}
+use Rattle.ledger.proofs.Places.{Owed, owed-in}
+use Rattle.shard_lists.proofs.Listed.{too-deep, no-counterparts, set-room, of-counterparts}
 use borrow.Author.Needs.{needs}
 use Rattle.shard_lists.proofs.counterparts.Statement.{statement}
 use Rattle.shard_lists.proofs.counterparts.Tie as tie
 use Rattle.types.specs.Transactions.{numberOf}
 
-there : (c : tie.After-k) → Owed (c .before .before .before .before .before .before .args .t1) (numberOf (c .before .before .before .before .before .before .args .tx)) (c .k .given .0 .0)
+there : (c : tie.After-slot) → Owed (c .before .before .before .before .before .before .args .t1) (numberOf (c .before .before .before .before .before .before .args .tx)) (c .slot .given .0 .0)
 there c =
     let s = c .before .before .before .before .before .before in
-    owed-at (s .args .t1) (s .pre) (numberOf (s .args .tx)) (c .k .given .0 .0) (sym (c .before .before .find .ensures) ∙ c .k .given .1)
+    owed-in (s .args .t1) (s .pre) (numberOf (s .args .tx)) (c .slot .given .0 .0) (rw (c .slot .given .1) at (c .before .before .slot-of .ensures))
 
 refusal-requires : tie.Need-refusal-requires
 refusal-requires c κs = search needs
@@ -24,11 +25,11 @@ returns c =
     let a = s .args in
     too-deep (a .t1) (s .pre) (numberOf (a .tx)) (a .depth) (a .lent .now) _ (omega arith) (c .refusal .ensures)
 
-find-requires : tie.Need-find-requires
-find-requires c κs = search needs
+slot-of-requires : tie.Need-slot-of-requires
+slot-of-requires c κs = search needs
 
-enum-known-k : tie.Need-enum-known-k
-enum-known-k c = search needs
+enum-known-slot : tie.Need-enum-known-slot
+enum-known-slot c = search needs
 
 enum-told : tie.Need-enum-told
 enum-told c = search needs
@@ -40,19 +41,13 @@ returns-2 : tie.Need-returns-2
 returns-2 c =
     let s = c .before .before .before .before .before .before .before in
     let a = s .args in
-    no-counterparts (a .t1) (s .pre) (numberOf (a .tx)) (a .depth) (a .lent .now) _ (omega arith) (sym (c .before .before .before .find .ensures) ∙ c .before .enum-told .given .1) (c .answer .ensures)
-
-mul-slot : tie.Need-mul-slot
-mul-slot c = omega (arith, there (c .before) .place)
-
-element-copy-out-slot : tie.Need-element-copy-out-slot
-element-copy-out-slot c = omega (arith, there (c .before) .place)
+    no-counterparts (a .t1) (s .pre) (numberOf (a .tx)) (a .depth) (a .lent .now) _ (omega arith) (rw (c .before .enum-told .given .1) at (c .before .before .before .slot-of .ensures)) (c .answer .ensures)
 
 mul-e : tie.Need-mul-e
-mul-e c = omega (arith, there (c .before .before) .slot)
+mul-e c = omega (arith, there (c .before) .slot)
 
 element-copy-out-e : tie.Need-element-copy-out-e
-element-copy-out-e c = omega (arith, there (c .before .before) .slot)
+element-copy-out-e c = omega (arith, there (c .before) .slot)
 
 cast-beyond : tie.Need-cast-beyond
 cast-beyond c = search needs
@@ -60,7 +55,7 @@ cast-beyond c = search needs
 beyond-requires : tie.Need-beyond-requires
 unfolding contents
 beyond-requires c κs =
-    let k = c .before .before .before .before .before .before in
+    let k = c .before .before .before .before .before in
     let s = k .before .before .before .before .before .before in
     (there k .fits _, record { sound = s .pre .departures; rising = s .pre .good .departures .rows .order; good = s .pre .good .departures .rows .each }, s .pre .good .frame .local, le-leb (s .args .depth) 32 (omega arith), search needs)
 
@@ -75,11 +70,11 @@ same-length c = search needs
 
 returns-3 : tie.Need-returns-3
 returns-3 c =
-    let k = c .before .before .before .before .before .before .before .before .before .before .before .before in
+    let k = c .before .before .before .before .before .before .before .before .before .before .before in
     let s = k .before .before .before .before .before .before in
     let a = s .args in
-    of-counterparts (a .t1) (s .pre) (numberOf (a .tx)) (a .depth) (a .lent .now) (omega arith) (k .k .given .0 .0) _ _ _ _
-    (sym (k .before .before .find .ensures) ∙ k .k .given .1) (c .before .before .before .before .before .beyond .ensures) (c .before .before .list .ensures)
+    of-counterparts (a .t1) (s .pre) (numberOf (a .tx)) (a .depth) (a .lent .now) (omega arith) (k .slot .given .0 .0) _ _ _ _
+    (there k) (c .before .before .before .before .before .beyond .ensures) (c .before .before .list .ensures)
 
 pub counterparts-spec : {M : Type 1} → statement M
 counterparts-spec =
@@ -87,13 +82,11 @@ counterparts-spec =
     (tie.spec
     refusal-requires
     returns
-    find-requires
-    enum-known-k
+    slot-of-requires
+    enum-known-slot
     enum-told
     answer-requires
     returns-2
-    mul-slot
-    element-copy-out-slot
     mul-e
     element-copy-out-e
     cast-beyond

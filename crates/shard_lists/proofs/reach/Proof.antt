@@ -1,25 +1,26 @@
 -- The routes are written out as they lie in the entry; a transaction not owed has none.
 -- Assumes nothing.
-use mathlib.Core.Path.{refl, sym, _∙_}
+use mathlib.Core.Path.{refl, sym}
 use native.Mathlib.Omega.{arith}
 use Rattle.entry.specs.Entry.{plainEntry}
 use Rattle.rules.specs.Plain as plain
 use Rattle.types.specs.Transactions.{numberOf}
-use Rattle.shard_lists.proofs.Listed.{Owed, owed-at, routes-room, not-owed, of-owed}
+use Rattle.ledger.proofs.Places.{Owed, owed-in}
+use Rattle.shard_lists.proofs.Listed.{routes-room, not-owed, of-owed}
 use borrow.Author.Needs.{needs}
 use Rattle.shard_lists.proofs.reach.Statement.{statement}
 use Rattle.shard_lists.proofs.reach.Tie as tie
 
-there : (c : tie.After-k) → Owed (c .before .before .before .before .before .args .t1) (numberOf (c .before .before .before .before .before .args .tx)) (c .k .given .0 .0)
+there : (c : tie.After-slot) → Owed (c .before .before .before .before .before .args .t1) (numberOf (c .before .before .before .before .before .args .tx)) (c .slot .given .0 .0)
 there c =
     let s = c .before .before .before .before .before in
-    owed-at (s .args .t1) (s .pre) (numberOf (s .args .tx)) (c .k .given .0 .0) (sym (c .before .before .find .ensures) ∙ c .k .given .1)
+    owed-in (s .args .t1) (s .pre) (numberOf (s .args .tx)) (c .slot .given .0 .0) (rw (c .slot .given .1) at (c .before .before .slot-of .ensures))
 
-find-requires : tie.Need-find-requires
-find-requires c κs = search needs
+slot-of-requires : tie.Need-slot-of-requires
+slot-of-requires c κs = search needs
 
-enum-known-k : tie.Need-enum-known-k
-enum-known-k c = search needs
+enum-known-slot : tie.Need-enum-known-slot
+enum-known-slot c = search needs
 
 enum-told : tie.Need-enum-told
 enum-told c = search needs
@@ -30,28 +31,22 @@ answer-requires c κs = search needs
 returns : tie.Need-returns
 returns c =
     let s = c .before .before .before .before .before .before in
-    not-owed (s .args .t1) (s .pre) (numberOf (s .args .tx)) (s .args .lent .now) (λ (e : plain.Entry). e .terms .routes) 0 refl _ (sym (c .before .before .before .find .ensures) ∙ c .before .enum-told .given .1) (c .answer .ensures)
-
-mul-slot : tie.Need-mul-slot
-mul-slot c = omega (arith, there (c .before) .place)
-
-element-copy-out-slot : tie.Need-element-copy-out-slot
-element-copy-out-slot c = omega (arith, there (c .before) .place)
+    not-owed (s .args .t1) (s .pre) (numberOf (s .args .tx)) (s .args .lent .now) (λ (e : plain.Entry). e .terms .routes) 0 refl _ (rw (c .before .enum-told .given .1) at (c .before .before .before .slot-of .ensures)) (c .answer .ensures)
 
 mul-e : tie.Need-mul-e
-mul-e c = omega (arith, there (c .before .before) .slot)
+mul-e c = omega (arith, there (c .before) .slot)
 
 element-copy-out-e : tie.Need-element-copy-out-e
-element-copy-out-e c = omega (arith, there (c .before .before) .slot)
+element-copy-out-e c = omega (arith, there (c .before) .slot)
 
 cast-n : tie.Need-cast-n
 cast-n c = search needs
 
 slice-aggregate-list : tie.Need-slice-aggregate-list
-slice-aggregate-list c = sym (there (c .before .before .before .before .before .before) .fits _ .routes)
+slice-aggregate-list c = sym (there (c .before .before .before .before .before) .fits _ .routes)
 
 list-requires : tie.Need-list-requires
-list-requires c κs = routes-room (there (c .before .before .before .before .before .before .before) .fits _)
+list-requires c κs = routes-room (there (c .before .before .before .before .before .before) .fits _)
 
 same-length : tie.Need-same-length
 same-length c = search needs
@@ -59,22 +54,20 @@ same-length c = search needs
 returns-2 : tie.Need-returns-2
 unfolding plainEntry
 returns-2 c =
-    let k = c .before .before .before .before .before .before .before .before .before .before in
+    let k = c .before .before .before .before .before .before .before .before .before in
     let s = k .before .before .before .before .before in
-    of-owed (s .args .t1) (s .pre) (numberOf (s .args .tx)) (s .args .lent .now) (λ (e : plain.Entry). e .terms .routes) 0 refl (k .k .given .0 .0) _ _ _ _ _
-    (sym (k .before .before .find .ensures) ∙ k .k .given .1) (routes-room (there k .fits _)) refl (c .before .before .list .ensures)
+    of-owed (s .args .t1) (s .pre) (numberOf (s .args .tx)) (s .args .lent .now) (λ (e : plain.Entry). e .terms .routes) 0 refl (k .slot .given .0 .0) _ _ _ _ _
+    (there k) (routes-room (there k .fits _)) refl (c .before .before .list .ensures)
 
 pub reach-spec : {M : Type 1} → statement M
 reach-spec =
     tie.close
     (tie.spec
-    find-requires
-    enum-known-k
+    slot-of-requires
+    enum-known-slot
     enum-told
     answer-requires
     returns
-    mul-slot
-    element-copy-out-slot
     mul-e
     element-copy-out-e
     cast-n

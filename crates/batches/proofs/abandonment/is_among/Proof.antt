@@ -15,7 +15,7 @@ use Rattle.batches.proofs.abandonment.is_among.Statement.{statement}
 use Rattle.batches.proofs.abandonment.is_among.Tie as tie
 
 abbrev Inv-loop : tie.InvT-loop
-Inv-loop words n tx i₀ i = (i ≤ n) × (has self (tx .0) (drop i (take n (transactions words))) ≡ has self (tx .0) (take n (transactions words)))
+Inv-loop words n tx i₀ i = (i ≤ n) × (has self (numberOf tx) (drop i (take n (transactions words))) ≡ has self (numberOf tx) (take n (transactions words)))
 
 abbrev μ-loop : tie.MeasureT-loop
 μ-loop words n tx i₀ i = n - i

@@ -1,42 +1,36 @@
--- Where x stands at its rank the set is the same; else it is put in there.
+-- One more has room, and with it the numbers still rise.
 -- Assumes nothing.
-use Rattle.shard_lists.specs.Sets.{Set, made}
-use Rattle.shard_lists.proofs.Gather.{known-in, rank-room, put-in}
-use borrow.Author.Needs.{needs}
+use mathlib.Core.Path.{_∙_}
+use native.Mathlib.Omega.{arith}
+use Rattle.lists.specs.Lists.{self}
+use Rattle.lists.proofs.Order.{ascending-include, length-include}
+use Rattle.shard_lists.specs.Sets.{Set, made, front}
+use Rattle.shard_lists.proofs.Gather.{front-length}
 use Rattle.shard_lists.proofs.set.include.Statement.{statement}
 use Rattle.shard_lists.proofs.set.include.Tie as tie
 
 abbrev whole : tie.Start → Set
 whole s = made (s .args .items .now) (s .args .n)
 
-rank-requires : tie.Need-rank-requires
-rank-requires c κs = search needs
-
-stands-requires : tie.Need-stands-requires
-stands-requires c κs = search needs
+include-requires : tie.Need-include-requires
+include-requires c κs =
+    let s = c .before in
+    let h = s .pre .0 .sized in
+    let l = front (whole s) in
+    (omega (arith, h .room, h .size), s .pre .0 .rising, omega (arith, length-include self (s .args .x .0) l, front-length (whole s) h, h .size, s .pre .1))
 
 returns : tie.Need-returns
 returns c =
-    let k = c .before .before .before in
-    let s = k .before .before in
-    known-in (whole s) (s .args .x .0) (s .pre .0) (k .rank .result) (k .rank .ensures) _ (c .before .stands .ensures) (c .if1 .taken)
-
-insert-at-requires : tie.Need-insert-at-requires
-insert-at-requires c κs =
-    let k = c .before .before .before .before in
-    let s = k .before .before in
-    (s .pre .0 .sized, rank-room (whole s) (s .args .x .0) (s .pre .0) (k .rank .result) (k .rank .ensures), s .pre .1)
-
-add-result : tie.Need-add-result
-add-result c = search needs
-
-returns-2 : tie.Need-returns-2
-returns-2 c =
-    let d = c .before .before in
-    let k = d .before .before .before in
-    let s = k .before .before in
-    put-in (whole s) (s .args .x .0) (s .pre .0) (k .rank .result) (k .rank .ensures) _ _ (d .before .stands .ensures) (d .if1 .left) (c .insert-at .ensures)
+    let s = c .before .before in
+    let o = c .include .ensures in
+    let h = s .pre .0 in
+    record {
+      sound = record {
+        sized = record { room = omega (arith, o .room, o .size, h .sized .size); size = o .size ∙ h .sized .size };
+        rising = rw (o .front) (ascending-include self (s .args .x .0) (front (whole s)) (h .rising));
+      };
+      holds = o .front;
+    }
 
 pub include-spec : {M : Type 1} → statement M
-include-spec =
-    tie.close (tie.spec rank-requires stands-requires returns insert-at-requires add-result returns-2)
+include-spec = tie.close (tie.spec include-requires returns)

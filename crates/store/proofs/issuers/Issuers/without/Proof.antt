@@ -20,7 +20,7 @@ use Rattle.store.proofs.issuers.Issuers.without.Statement.{statement}
 use Rattle.store.proofs.issuers.Issuers.without.Tie as tie
 
 abbrev Inv-loop : tie.InvT-loop
-Inv-loop t self n stay₀ i₀ stay i = (i ≤ n) × (length stay ≡ 384) × (take i stay ≡ map (isNot (t .0)) (take i (pairsIn self)))
+Inv-loop t self n stay₀ i₀ stay i = (i ≤ n) × (length stay ≡ 384) × (take i stay ≡ map (isNot (numberOf t)) (take i (pairsIn self)))
 
 abbrev μ-loop : tie.MeasureT-loop
 μ-loop t self n stay₀ i₀ stay i = n - i
@@ -28,11 +28,14 @@ abbrev μ-loop : tie.MeasureT-loop
 loop-holds : tie.Need-loop-holds Inv-loop μ-loop
 loop-holds c = (search needs, search needs, refl)
 
-mul-stay : tie.Need-mul-stay Inv-loop μ-loop
-mul-stay c = search needs
+mul-t9 : tie.Need-mul-t9 Inv-loop μ-loop
+mul-t9 c = search needs
 
-element-copy-out-stay : tie.Need-element-copy-out-stay Inv-loop μ-loop
-element-copy-out-stay c = search needs
+element-copy-out-t12 : tie.Need-element-copy-out-t12 Inv-loop μ-loop
+element-copy-out-t12 c = search needs
+
+is-requires : tie.Need-is-requires Inv-loop μ-loop
+is-requires c κs = search needs
 
 array-write-stay : tie.Need-array-write-stay Inv-loop μ-loop
 array-write-stay c = search needs
@@ -52,7 +55,7 @@ loop-again c =
     let h : length (pairsIn x) ≡ x .len = pairs-length x (s .pre) in
     let m : p (getD (pairsIn x) (l .i) (pair 0 0)) ≡ not (eqb (getD (x .transactions) (l .i) 0) (numberOf (s .args .t))) =
     ap p (pairs-at pair (x .records) (x .transactions) (x .len) (omega arith) (omega arith) 0 0 (pair 0 0) (l .i) (omega arith)) in
-    (search needs, search needs, fill-one p (l .stay) (pairsIn x) (l .i) (pair 0 0) _ (omega arith) (omega arith) (sym m) (l .inv .2))
+    (search needs, search needs, fill-one p (l .stay) (pairsIn x) (l .i) (pair 0 0) _ (omega arith) (omega arith) (ap not (c .is .ensures) ∙ sym m) (l .inv .2))
 
 retain-requires : tie.Need-retain-requires Inv-loop μ-loop
 retain-requires c κs = search needs
@@ -76,8 +79,9 @@ without-spec =
     Inv-loop
     μ-loop
     loop-holds
-    mul-stay
-    element-copy-out-stay
+    mul-t9
+    element-copy-out-t12
+    is-requires
     array-write-stay
     add-i
     loop-less

@@ -4,7 +4,6 @@ use Prim.Native.Nat.{_≤_, _-_}
 use mathlib.Core.Path.{_≡_, sym, _∙_}
 use native.Mathlib.Omega.{arith}
 use lib.ListN.{drop}
-use borrow.Author.Tests.{eq-eqb, ne-eqb}
 use Rattle.lists.specs.Arrays.{place}
 use Rattle.lists.proofs.Loops.{place-hit, place-miss, place-done}
 use Rattle.types.specs.Transactions.{numberOf}
@@ -14,7 +13,7 @@ use Rattle.store.proofs.roster.Roster.find.Statement.{statement}
 use Rattle.store.proofs.roster.Roster.find.Tie as tie
 
 abbrev Inv-loop : tie.InvT-loop
-Inv-loop tx self n i₀ i = (n ≡ self .len) × (i ≤ n) × (place (is (tx .0)) i (drop i (keysOf self)) ≡ place (is (tx .0)) 0 (keysOf self))
+Inv-loop tx self n i₀ i = (n ≡ self .len) × (i ≤ n) × (place (is (numberOf tx)) i (drop i (keysOf self)) ≡ place (is (numberOf tx)) 0 (keysOf self))
 
 abbrev μ-loop : tie.MeasureT-loop
 μ-loop tx self n i₀ i = n - i
@@ -22,17 +21,20 @@ abbrev μ-loop : tie.MeasureT-loop
 loop-holds : tie.Need-loop-holds Inv-loop μ-loop
 loop-holds c = search needs
 
-mul-if1 : tie.Need-mul-if1 Inv-loop μ-loop
-mul-if1 c = search needs
+mul-t8 : tie.Need-mul-t8 Inv-loop μ-loop
+mul-t8 c = search needs
 
-element-copy-out-if1 : tie.Need-element-copy-out-if1 Inv-loop μ-loop
-element-copy-out-if1 c = search needs
+element-copy-out-t11 : tie.Need-element-copy-out-t11 Inv-loop μ-loop
+element-copy-out-t11 c = search needs
+
+is-requires : tie.Need-is-requires Inv-loop μ-loop
+is-requires c κs = search needs
 
 returns : tie.Need-returns Inv-loop μ-loop
 returns c =
     let s = c .before .before .before .before .before in
     let l = c .before .before .before .before .loop in
-    sym (place-hit (is (numberOf (s .args .tx))) _ (s .args .t1 .keys) (l .i) (s .args .t1 .len) (omega arith) (omega arith) (eq-eqb _ _ (c .if1 .taken))) ∙ l .inv .2
+    sym (place-hit (is (numberOf (s .args .tx))) _ (s .args .t1 .keys) (l .i) (s .args .t1 .len) (omega arith) (omega arith) (sym (c .before .is .ensures) ∙ c .if1 .taken)) ∙ l .inv .2
 
 add-i : tie.Need-add-i Inv-loop μ-loop
 add-i c = search needs
@@ -44,7 +46,7 @@ loop-again : tie.Need-loop-again Inv-loop μ-loop
 loop-again c =
     let s = c .before .before .before .before .before in
     let l = c .before .before .before .before .loop in
-    (search needs, search needs, place-miss (is (numberOf (s .args .tx))) _ (s .args .t1 .keys) (l .i) (s .args .t1 .len) (omega arith) (omega arith) (ne-eqb _ _ (c .if1 .left)) ∙ l .inv .2)
+    (search needs, search needs, place-miss (is (numberOf (s .args .tx))) _ (s .args .t1 .keys) (l .i) (s .args .t1 .len) (omega arith) (omega arith) (sym (c .before .is .ensures) ∙ c .if1 .left) ∙ l .inv .2)
 
 returns-2 : tie.Need-returns-2 Inv-loop μ-loop
 returns-2 c =
@@ -59,8 +61,9 @@ find-spec =
     Inv-loop
     μ-loop
     loop-holds
-    mul-if1
-    element-copy-out-if1
+    mul-t8
+    element-copy-out-t11
+    is-requires
     returns
     add-i
     loop-less
