@@ -35,7 +35,8 @@ pub fn run_and_prune_from(
     counts: &mut [u64],
 ) -> RunAndPruned
     requires { ⌜ Held start ⌝ }
-    ensures { λ r. ⌜ Claims (contents start) (now (calls .entry)) (now (clocks .entry)) k (now (lent .entry)) (now (lent .exit)) (now (reports .entry)) (now (reports .exit)) (now (counts .entry)) (now (counts .exit)) r ⌝ }
+    ensures { λ r. ⌜ Claims (contents start) (now (calls .entry)) (now (clocks .entry)) k (now (lent .entry)) (now (lent .exit))
+        (now (reports .entry)) (now (reports .exit)) (now (counts .entry)) (now (counts .exit)) r ⌝ }
 {
     let before = run_calls(start, calls, lent);
     if !may_prune(clocks, reports.len(), counts.len()) {
@@ -74,7 +75,8 @@ pub fn run_and_prune(
     reports: &mut [u64],
     counts: &mut [u64],
 ) -> RunAndPruned
-    ensures { λ r. ⌜ Claims (making (local .0) validity «core_span» «leg_span» .ledger) (now (calls .entry)) (now (clocks .entry)) k (now (lent .entry)) (now (lent .exit)) (now (reports .entry)) (now (reports .exit)) (now (counts .entry)) (now (counts .exit)) r ⌝ }
+    ensures { λ r. ⌜ Claims (making (local .0) validity «core_span» «leg_span» .ledger) (now (calls .entry)) (now (clocks .entry)) k (now (lent .entry)) (now (lent .exit))
+        (now (reports .entry)) (now (reports .exit)) (now (counts .entry)) (now (counts .exit)) r ⌝ }
 {
     let made = new(local, validity, core_span, leg_span);
     run_and_prune_from(made.ledger, calls, clocks, k, lent, reports, counts)
