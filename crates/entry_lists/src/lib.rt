@@ -8,7 +8,7 @@ ghost use lib.Dec.{eqb};
 ghost use lib.ListN.{length};
 ghost use Rattle.rules.specs.Readings.{read, askQuestions, listPastDeadline, listIssuers, questions, questionsOf, questionWords, pastDeadline, termWords, issuersOf, issuerWords};
 ghost use Rattle.rules.specs.Good.{GoodEntry};
-ghost use Rattle.rules.specs.Widths.{questionSize, termRoom, issuerRoom};
+ghost use Rattle.rules.specs.Widths.{questionSize, termSize, termRoom, issuerSize, issuerRoom};
 ghost use Rattle.entry.specs.Entry.{plainEntry, Fits};
 ghost use Rattle.ledger.specs.Contents.{contents, Held};
 ghost use Rattle.readings.specs.Reads.{Reads};
@@ -44,7 +44,7 @@ fn is_asking(e: Entry) -> bool
 // first, so that the entry needs no copy.
 fn put_questions(e: Entry, local: Shard, from: usize, words: &mut [u64]) -> usize
     requires { ⌜ Fits e × (questionSize * (from + length (asksOf (local .0) (plainEntry e))) ≤ length (now words)) ⌝ }
-    ensures { λ r. ⌜ Ran questionWords 5 (asksOf (local .0) (plainEntry e)) (now (words .entry)) from (now (words .exit)) r ⌝ }
+    ensures { λ r. ⌜ Ran questionWords questionSize (asksOf (local .0) (plainEntry e)) (now (words .entry)) from (now (words .exit)) r ⌝ }
 {
     let n = e.core_len as usize;
     let core = e.core;
@@ -133,7 +133,7 @@ fn is_past(e: Entry, validity: u64, time: Time) -> bool
 
 fn gather_past(ledger: Ledger, time: Time, words: &mut [u64; TERMS_ROOM]) -> usize
     requires { ⌜ Held ledger × (length (now words) ≡ termRoom) ⌝ }
-    ensures { λ r. ⌜ Ran termWords 5 (pastDeadline (time .0) (contents ledger)) (now (words .entry)) 0 (now (words .exit)) r ⌝ }
+    ensures { λ r. ⌜ Ran termWords termSize (pastDeadline (time .0) (contents ledger)) (now (words .entry)) 0 (now (words .exit)) r ⌝ }
 {
     let roster = ledger.roster;
     let n = roster.len;
@@ -198,7 +198,7 @@ fn issues_id(e: Entry, local: Shard, id: u64) -> bool
 
 fn gather_issuers(ledger: Ledger, id: u64, words: &mut [u64; ISSUERS_ROOM]) -> usize
     requires { ⌜ Held ledger × (length (now words) ≡ issuerRoom) ⌝ }
-    ensures { λ r. ⌜ Ran issuerWords 2 (issuersOf id (contents ledger)) (now (words .entry)) 0 (now (words .exit)) r ⌝ }
+    ensures { λ r. ⌜ Ran issuerWords issuerSize (issuersOf id (contents ledger)) (now (words .entry)) 0 (now (words .exit)) r ⌝ }
 {
     let roster = ledger.roster;
     let n = roster.len;
