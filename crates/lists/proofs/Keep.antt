@@ -126,6 +126,7 @@ module _ {A : Type 0} where
   pub every_member : (P : A → Type 0) {x : A} (l : List A) → Every P l → Memᴰ x l → P x
   every_member P (y ∷ l) v (Memᴰ.head e) = rw e v.0
   every_member P (y ∷ l) v (Memᴰ.tail m) = every_member P l v.1 m
+  every_member P [] v x3 = elim x3 [ ]
 
   pub every_all : (p : A → Bool) (l : List A) → all p l ≡ true → Every (λ x. p x ≡ true) l
   every_all p [] h = tt

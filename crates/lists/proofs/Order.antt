@@ -8,7 +8,7 @@ use native.Mathlib.Omega.{arith}
 use borrow.Author.Tests.{ltb-true, ltb-false, eqb-true, eqb-false, eq-eqb, ne_eqb, lt-ltb, le-ltb}
 use lib.Dec.{eqb, ltb}
 use lib.ListN.{length}
-use Rattle.lists.specs.Lists.{cons_if, keep, any, change_if, Every, at, has, include, include_all, Above, Ascending, above_all, ascending}
+use Rattle.lists.specs.Lists.{cons_if, keep, any, change_if, Every, has, include, include_all, Above, Ascending, above_all, ascending}
 use Rattle.lists.proofs.Tests.{or_assoc, and_left, and_right, and_both}
 use Rattle.lists.proofs.Keep.{every_more}
 
@@ -29,6 +29,7 @@ module _ {A : Type 0} (key : A → ℕ) where
   pub above_member : (k : ℕ) {x : A} (l : List A) → Above key k l → Memᴰ x l → k < key x
   above_member k (y ∷ l) a (Memᴰ.head e) = rw e a.0
   above_member k (y ∷ l) a (Memᴰ.tail m) = above_member k l a.1 m
+  above_member k [] a x3 = elim x3 [ ]
 
   pub above_keep : (p : A → Bool) (k : ℕ) (l : List A) → Above key k l → Above key k (keep p l)
   above_keep p k [] a = tt

@@ -40,6 +40,7 @@ module _ {A : Type 0} where
       go : (b : Bool) → Memᴰ x (keep q l) → Memᴰ x (cons_if b y (keep q l))
       go true k = Memᴰ.tail k
       go false k = k
+  kept_member q [] {x = x} x4 h = elim x4 [ ]
 
   pub keep_swap : (p q : A → Bool) (l : List A) → keep p (keep q l) ≡ keep q (keep p l)
   keep_swap p q l = keep_and q p l ∙ keep_same _ _ l (λ x m. and_swap (q x) (p x)) ∙ sym (keep_and p q l)
@@ -131,6 +132,7 @@ module _ {A : Type 0} where
         go : (b : Bool) → has key (key x) (keep q l) ≡ q x → has key (key x) (cons_if b y (keep q l)) ≡ q x
         go true ih = rw (ne_eqb (key y) (key x) (omega (arith, lt))) ih
         go false ih = ih
+    has_kept q [] a x x4 = elim x4 [ ]
 
     -- nothing has the key: anything holds of what has it
     pub lacking_every : (C : A → Type 0) (t : ℕ) (l : List A) → has key t l ≡ false → Every (λ x. key x ≡ t → C x) l

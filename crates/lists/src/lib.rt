@@ -1,4 +1,6 @@
 // What lists of numbers are read with: slices of words, rising numbers in the front of one, and where something stands in a list.
+#![tactic(auto)]
+
 pub mod slices;
 pub mod sorted;
 

@@ -10,57 +10,57 @@ use Rattle.lists.proofs.Cuts.{copy_one, copy_end}
 use Rattle.lists.proofs.slices.copy8.Statement.{statement}
 use Rattle.lists.proofs.slices.copy8.Tie as tie
 
-abbrev invariant-loop : tie.invariant-loop
-invariant-loop s out₀ i₀ out i = (i ≤ length s) × (length out ≡ 8) × (take i out ++ drop i s ≡ s)
+abbrev invariant-loop-i : tie.invariant-loop-i
+invariant-loop-i s out₀ i₀ out i = (i ≤ length s) × (length out ≡ 8) × (take i out ++ drop i s ≡ s)
 
-abbrev decreases-loop : tie.decreases-loop
-decreases-loop s out₀ i₀ out i = length s - i
+abbrev decreases-loop-i : tie.decreases-loop-i
+decreases-loop-i s out₀ i₀ out i = length s - i
 
-loop-holds : tie.Need-loop-init invariant-loop decreases-loop
-loop-holds c = search rules
+loop-i-init : tie.Need-loop-i-init invariant-loop-i decreases-loop-i
+loop-i-init c = search rules
 
-mul-out : tie.Need-overflow-mul-out invariant-loop decreases-loop
-mul-out c = search rules
+offset_bounds-s-i : tie.Need-offset_bounds-s-i invariant-loop-i decreases-loop-i
+offset_bounds-s-i c = search rules
 
-shared-slice-read-out : tie.Need-shared-slice-read-out invariant-loop decreases-loop
-shared-slice-read-out c = search rules
+bounds-s-i : tie.Need-bounds-s-i invariant-loop-i decreases-loop-i
+bounds-s-i c = search rules
 
-mul-out-2 : tie.Need-overflow-mul-out-2 invariant-loop decreases-loop
-mul-out-2 c = search rules
+offset_bounds-out-i : tie.Need-offset_bounds-out-i invariant-loop-i decreases-loop-i
+offset_bounds-out-i c = search rules
 
-array-write-out : tie.Need-array-write-out invariant-loop decreases-loop
-array-write-out c = search rules
+bounds-out-i : tie.Need-bounds-out-i invariant-loop-i decreases-loop-i
+bounds-out-i c = search rules
 
-add-i : tie.Need-overflow-add-i invariant-loop decreases-loop
-add-i c = search rules
+overflow_add-i : tie.Need-overflow_add-i invariant-loop-i decreases-loop-i
+overflow_add-i c = search rules
 
-loop-less : tie.Need-loop-smaller invariant-loop decreases-loop
-loop-less c = search rules
+loop-i-smaller : tie.Need-loop-i-smaller invariant-loop-i decreases-loop-i
+loop-i-smaller c = search rules
 
-loop-again : tie.Need-loop-preserved invariant-loop decreases-loop
-loop-again c =
-    let l = c.before.before.loop in
+loop-i-preserved : tie.Need-loop-i-preserved invariant-loop-i decreases-loop-i
+loop-i-preserved c =
+    let l = c.before.before.loop-i in
     let s = c.before.before.before.args.s.now in
     (search rules, simp length-set l.invariant.1, copy_one l.out s l.i (search rules) (search rules) ∙ l.invariant.2)
 
-returns : tie.Need-returns invariant-loop decreases-loop
+returns : tie.Need-returns invariant-loop-i decreases-loop-i
 returns c =
-    let l = c.before.loop in
+    let l = c.before.loop-i in
     let s = c.before.before.args.s.now in
-    (l.invariant.1, copy_end l.out s l.i c.loop-test.false l.invariant.0 l.invariant.2)
+    (l.invariant.1, copy_end l.out s l.i c.loop-i-test.false l.invariant.0 l.invariant.2)
 
-pub copy8-spec : {M : Type 1} → statement M
-copy8-spec =
+pub copy8_spec : {M : Type 1} → statement M
+copy8_spec =
     tie.close
     (tie.spec
-    invariant-loop
-    decreases-loop
-    loop-holds
-    mul-out
-    shared-slice-read-out
-    mul-out-2
-    array-write-out
-    add-i
-    loop-less
-    loop-again
+    invariant-loop-i
+    decreases-loop-i
+    loop-i-init
+    offset_bounds-s-i
+    bounds-s-i
+    offset_bounds-out-i
+    bounds-out-i
+    overflow_add-i
+    loop-i-smaller
+    loop-i-preserved
     returns)

@@ -9,22 +9,22 @@ use lib.Seq.{take_all}
 use Rattle.lists.proofs.slices.rest.Statement.{statement}
 use Rattle.lists.proofs.slices.rest.Tie as tie
 
-mul-result : tie.Need-overflow-mul-result
-mul-result c = search rules
+offset_bounds-s-from : tie.Need-offset_bounds-s-from
+offset_bounds-s-from c = search rules
 
-sub-result : tie.Need-overflow-sub-result
-sub-result c = search rules
+slice_bounds-result-count : tie.Need-slice_bounds-result-count
+slice_bounds-result-count c = search rules
 
-part-result-start : tie.Need-slice-bounds-result-start
-part-result-start c = search rules
+slice_bounds-result-start : tie.Need-slice_bounds-result-start
+slice_bounds-result-start c = search rules
 
-part-result-end : tie.Need-slice-bounds-result-end
-part-result-end c = search rules
+slice_bounds-result-end : tie.Need-slice_bounds-result-end
+slice_bounds-result-end c = search rules
 
 returns : tie.Need-returns
 returns c =
     let a = c.before.args in
     take_all (length a.s.now - a.from) (drop a.from a.s.now) (omega (arith, length-drop a.from a.s.now))
 
-pub rest-spec : {M : Type 1} → statement M
-rest-spec = tie.close (tie.spec mul-result sub-result part-result-start part-result-end returns)
+pub rest_spec : {M : Type 1} → statement M
+rest_spec = tie.close (tie.spec offset_bounds-s-from slice_bounds-result-count slice_bounds-result-start slice_bounds-result-end returns)

@@ -10,72 +10,72 @@ use Rattle.lists.proofs.Cuts.{rises_hit, rises_miss, rises_end}
 use Rattle.lists.proofs.slices.rises.Statement.{statement}
 use Rattle.lists.proofs.slices.rises.Tie as tie
 
-abbrev invariant-loop : tie.invariant-loop
-invariant-loop s i₀ i = (i ≤ length s) × (ascending self (drop i s) ≡ ascending self s)
+abbrev invariant-loop-i : tie.invariant-loop-i
+invariant-loop-i s i₀ i = (i ≤ length s) × (ascending self (drop i s) ≡ ascending self s)
 
-abbrev decreases-loop : tie.decreases-loop
-decreases-loop s i₀ i = length s - i
+abbrev decreases-loop-i : tie.decreases-loop-i
+decreases-loop-i s i₀ i = length s - i
 
-loop-holds : tie.Need-loop-init invariant-loop decreases-loop
-loop-holds c = search rules
+loop-i-init : tie.Need-loop-i-init invariant-loop-i decreases-loop-i
+loop-i-init c = search rules
 
-add-loop : tie.Need-overflow-add-loop invariant-loop decreases-loop
-add-loop c = search rules
+overflow_add-i : tie.Need-overflow_add-i invariant-loop-i decreases-loop-i
+overflow_add-i c = search rules
 
-add-if1 : tie.Need-overflow-add-if1 invariant-loop decreases-loop
-add-if1 c = search rules
+overflow_add-i-in-loop-i : tie.Need-overflow_add-i-in-loop-i invariant-loop-i decreases-loop-i
+overflow_add-i-in-loop-i c = search rules
 
-mul-if1 : tie.Need-overflow-mul-if1 invariant-loop decreases-loop
-mul-if1 c = search rules
+offset_bounds-s-i : tie.Need-offset_bounds-s-i invariant-loop-i decreases-loop-i
+offset_bounds-s-i c = search rules
 
-shared-slice-read-if1 : tie.Need-shared-slice-read-if1 invariant-loop decreases-loop
-shared-slice-read-if1 c = search rules
+bounds-s-i : tie.Need-bounds-s-i invariant-loop-i decreases-loop-i
+bounds-s-i c = search rules
 
-mul-if1-2 : tie.Need-overflow-mul-if1-2 invariant-loop decreases-loop
-mul-if1-2 c = search rules
+offset_bounds-s-i-in-loop-i : tie.Need-offset_bounds-s-i-in-loop-i invariant-loop-i decreases-loop-i
+offset_bounds-s-i-in-loop-i c = search rules
 
-shared-slice-read-if1-2 : tie.Need-shared-slice-read-if1-2 invariant-loop decreases-loop
-shared-slice-read-if1-2 c = search rules
+bounds-s-i-in-loop-i : tie.Need-bounds-s-i-in-loop-i invariant-loop-i decreases-loop-i
+bounds-s-i-in-loop-i c = search rules
 
-returns : tie.Need-returns invariant-loop decreases-loop
+returns-then-s-i : tie.Need-returns-then-s-i invariant-loop-i decreases-loop-i
+returns-then-s-i c =
+    let l = c.before.before.before.before.loop-i in
+    let s = c.before.before.before.before.before.args.s.now in
+    sym (sym l.invariant.1 ∙ rises_miss s l.i (search rules) (le-ltb _ _ c.if-s-i.true))
+
+overflow_add-i-in-loop-i-2 : tie.Need-overflow_add-i-in-loop-i-2 invariant-loop-i decreases-loop-i
+overflow_add-i-in-loop-i-2 c = search rules
+
+loop-i-smaller : tie.Need-loop-i-smaller invariant-loop-i decreases-loop-i
+loop-i-smaller c = search rules
+
+loop-i-preserved : tie.Need-loop-i-preserved invariant-loop-i decreases-loop-i
+loop-i-preserved c =
+    let l = c.before.before.before.before.loop-i in
+    let s = c.before.before.before.before.before.args.s.now in
+    (search rules, rises_hit s l.i (search rules) (lt-ltb _ _ c.if-s-i.false) ∙ l.invariant.1)
+
+returns : tie.Need-returns invariant-loop-i decreases-loop-i
 returns c =
-    let l = c.before.before.before.before.loop in
-    let s = c.before.before.before.before.before.args.s.now in
-    sym (sym l.invariant.1 ∙ rises_miss s l.i (search rules) (le-ltb _ _ c.if1.true))
-
-add-i : tie.Need-overflow-add-i invariant-loop decreases-loop
-add-i c = search rules
-
-loop-less : tie.Need-loop-smaller invariant-loop decreases-loop
-loop-less c = search rules
-
-loop-again : tie.Need-loop-preserved invariant-loop decreases-loop
-loop-again c =
-    let l = c.before.before.before.before.loop in
-    let s = c.before.before.before.before.before.args.s.now in
-    (search rules, rises_hit s l.i (search rules) (lt-ltb _ _ c.if1.false) ∙ l.invariant.1)
-
-returns-2 : tie.Need-returns-2 invariant-loop decreases-loop
-returns-2 c =
-    let l = c.before.loop in
+    let l = c.before.loop-i in
     let s = c.before.before.args.s.now in
-    sym (sym l.invariant.1 ∙ rises_end s l.i c.loop-test.false)
+    sym (sym l.invariant.1 ∙ rises_end s l.i c.loop-i-test.false)
 
-pub rises-spec : {M : Type 1} → statement M
-rises-spec =
+pub rises_spec : {M : Type 1} → statement M
+rises_spec =
     tie.close
     (tie.spec
-    invariant-loop
-    decreases-loop
-    loop-holds
-    add-loop
-    add-if1
-    mul-if1
-    shared-slice-read-if1
-    mul-if1-2
-    shared-slice-read-if1-2
-    returns
-    add-i
-    loop-less
-    loop-again
-    returns-2)
+    invariant-loop-i
+    decreases-loop-i
+    loop-i-init
+    overflow_add-i
+    overflow_add-i-in-loop-i
+    offset_bounds-s-i
+    bounds-s-i
+    offset_bounds-s-i-in-loop-i
+    bounds-s-i-in-loop-i
+    returns-then-s-i
+    overflow_add-i-in-loop-i-2
+    loop-i-smaller
+    loop-i-preserved
+    returns)

@@ -10,56 +10,56 @@ use Rattle.lists.proofs.Cuts.{total_more, total-none}
 use Rattle.lists.proofs.slices.total.Statement.{statement}
 use Rattle.lists.proofs.slices.total.Tie as tie
 
-abbrev invariant-loop : tie.invariant-loop
-invariant-loop s sum₀ i₀ sum i = (i ≤ length s) × (sum + total self (drop i s) ≡ total self s)
+abbrev invariant-loop-i : tie.invariant-loop-i
+invariant-loop-i s sum₀ i₀ sum i = (i ≤ length s) × (sum + total self (drop i s) ≡ total self s)
 
-abbrev decreases-loop : tie.decreases-loop
-decreases-loop s sum₀ i₀ sum i = length s - i
+abbrev decreases-loop-i : tie.decreases-loop-i
+decreases-loop-i s sum₀ i₀ sum i = length s - i
 
-loop-holds : tie.Need-loop-init invariant-loop decreases-loop
-loop-holds c = search rules
+loop-i-init : tie.Need-loop-i-init invariant-loop-i decreases-loop-i
+loop-i-init c = search rules
 
-mul-sum : tie.Need-overflow-mul-sum invariant-loop decreases-loop
-mul-sum c = search rules
+offset_bounds-s-i : tie.Need-offset_bounds-s-i invariant-loop-i decreases-loop-i
+offset_bounds-s-i c = search rules
 
-shared-slice-read-sum : tie.Need-shared-slice-read-sum invariant-loop decreases-loop
-shared-slice-read-sum c = search rules
+bounds-s-i : tie.Need-bounds-s-i invariant-loop-i decreases-loop-i
+bounds-s-i c = search rules
 
-add-sum : tie.Need-overflow-add-sum invariant-loop decreases-loop
-add-sum c =
-    let l = c.before.before.loop in
+overflow_add-sum : tie.Need-overflow_add-sum invariant-loop-i decreases-loop-i
+overflow_add-sum c =
+    let l = c.before.before.loop-i in
     let s = c.before.before.before.args.s.now in
     omega (arith, total_more self 0 s l.sum l.i (search rules))
 
-add-i : tie.Need-overflow-add-i invariant-loop decreases-loop
-add-i c = search rules
+overflow_add-i : tie.Need-overflow_add-i invariant-loop-i decreases-loop-i
+overflow_add-i c = search rules
 
-loop-less : tie.Need-loop-smaller invariant-loop decreases-loop
-loop-less c = search rules
+loop-i-smaller : tie.Need-loop-i-smaller invariant-loop-i decreases-loop-i
+loop-i-smaller c = search rules
 
-loop-again : tie.Need-loop-preserved invariant-loop decreases-loop
-loop-again c =
-    let l = c.before.before.loop in
+loop-i-preserved : tie.Need-loop-i-preserved invariant-loop-i decreases-loop-i
+loop-i-preserved c =
+    let l = c.before.before.loop-i in
     let s = c.before.before.before.args.s.now in
     (search rules, total_more self 0 s l.sum l.i (search rules) ∙ l.invariant.1)
 
-returns : tie.Need-returns invariant-loop decreases-loop
+returns : tie.Need-returns invariant-loop-i decreases-loop-i
 returns c =
-    let l = c.before.loop in
+    let l = c.before.loop-i in
     let s = c.before.before.args.s.now in
-    omega (arith, l.invariant.1, total-none self s l.i c.loop-test.false)
+    omega (arith, l.invariant.1, total-none self s l.i c.loop-i-test.false)
 
-pub total-spec : {M : Type 1} → statement M
-total-spec =
+pub total_spec : {M : Type 1} → statement M
+total_spec =
     tie.close
     (tie.spec
-    invariant-loop
-    decreases-loop
-    loop-holds
-    mul-sum
-    shared-slice-read-sum
-    add-sum
-    add-i
-    loop-less
-    loop-again
+    invariant-loop-i
+    decreases-loop-i
+    loop-i-init
+    offset_bounds-s-i
+    bounds-s-i
+    overflow_add-sum
+    overflow_add-i
+    loop-i-smaller
+    loop-i-preserved
     returns)

@@ -6,17 +6,17 @@ use lib.ListN.{get_or-eq_default}
 use Rattle.lists.proofs.slices.word_at.Statement.{statement}
 use Rattle.lists.proofs.slices.word_at.Tie as tie
 
-mul-result : tie.Need-overflow-mul-result
-mul-result c = search rules
+offset_bounds-s-i : tie.Need-offset_bounds-s-i
+offset_bounds-s-i c = search rules
 
-shared-slice-read-result : tie.Need-shared-slice-read-result
-shared-slice-read-result c = search rules
+bounds-s-i : tie.Need-bounds-s-i
+bounds-s-i c = search rules
 
-returns : tie.Need-returns
-returns c = search rules
+returns-then-i-s : tie.Need-returns-then-i-s
+returns-then-i-s c = search rules
 
-returns-2 : tie.Need-returns-2
-returns-2 c = sym (get_or-eq_default c.before.args.s.now 0 c.if1.false)
+returns-else-i-s : tie.Need-returns-else-i-s
+returns-else-i-s c = sym (get_or-eq_default c.before.args.s.now 0 c.if-i-s.false)
 
-pub word-at-spec : {M : Type 1} → statement M
-word-at-spec = tie.close (tie.spec mul-result shared-slice-read-result returns returns-2)
+pub word_at_spec : {M : Type 1} → statement M
+word_at_spec = tie.close (tie.spec offset_bounds-s-i bounds-s-i returns-then-i-s returns-else-i-s)

@@ -25,70 +25,70 @@ front_length s = length-take-le s.args.n s.args.s.now s.requires.0
 seen : (s : tie.Start) (k : ℕ) (r b : Bool) → k ≡ rank (under s.args.x) (front s) → r ≡ leads self s.args.x (drop k (front s)) → r ≡ b → has self s.args.x (front s) ≡ b
 seen s k r b q e t = at-rank self s.args.x (front s) s.requires.1 ∙ ap (λ i. leads self s.args.x (drop i (front s))) (sym q) ∙ sym e ∙ t
 
-abbrev ranked : tie.Else1 → tie.After-rank
-ranked c = c.before.before.before
+abbrev ranked : tie.Else-stands → tie.After-rank-k
+ranked c = c.before.before
 
-abbrev from : tie.Else1 → tie.Start
-from c = (ranked c).before.before.before
+abbrev from : tie.Else-stands → tie.Start
+from c = (ranked c).before.before
 
-new : (c : tie.Else1) → has self (from c).args.x (front (from c)) ≡ false
-new c = seen (from c) _ _ false (ranked c).rank.ensures c.before.stands.ensures c.if1.false
+new : (c : tie.Else-stands) → has self (from c).args.x (front (from c)) ≡ false
+new c = seen (from c) _ _ false (ranked c).rank-k.ensures c.before.stands.ensures c.if-stands.false
 
-room : (c : tie.Else1) → (from c).args.n < length (from c).args.s.now
+room : (c : tie.Else-stands) → (from c).args.n < length (from c).args.s.now
 room c =
     let s = from c in
-    omega (arith, length-include_new self s.args.x (front s) (new c), front_length s, s.pre.2)
+    omega (arith, length-include_new self s.args.x (front s) (new c), front_length s, s.requires.2)
 
-rank-requires : tie.Need-rank-requires
-rank-requires c κs = search rules
+rank-k-requires : tie.Need-rank-k-requires
+rank-k-requires c κs = search rules
 
 stands-requires : tie.Need-stands-requires
 stands-requires c κs = search rules
 
-same_length : tie.Need-same-length
-same_length c = search rules
+shape_of-s-then-stands : tie.Need-shape_of-s-then-stands
+shape_of-s-then-stands c = search rules
 
-returns : tie.Need-returns
-returns c =
-    let k = c.before.before.before in
-    let s = k.before.before.before in
+returns-then-stands : tie.Need-returns-then-stands
+returns-then-stands c =
+    let k = c.before.before in
+    let s = k.before.before in
     record {
       size = refl;
       room = s.requires.0;
-      front = sym (include-known self s.args.x (front s) s.requires.1 (seen s _ _ true k.rank.ensures c.before.stands.ensures c.if1.true));
+      front = sym (include-known self s.args.x (front s) s.requires.1 (seen s _ _ true k.rank-k.ensures c.before.stands.ensures c.if-stands.true));
     }
 
-insert-at-requires : tie.Need-insert-at-requires
-insert-at-requires c κs =
+insert_at-requires : tie.Need-insert_at-requires
+insert_at-requires c κs =
     let s = from c.before in
-    (omega (arith, (ranked c.before).rank.ensures, rank_le (under s.args.x) (front s), front_length s), room c.before)
+    (omega (arith, (ranked c.before).rank-k.ensures, rank_le (under s.args.x) (front s), front_length s), room c.before)
 
-add-result : tie.Need-overflow-add-result
-add-result c = search rules
+overflow_add-result : tie.Need-overflow_add-result
+overflow_add-result c = search rules
 
-same-length-2 : tie.Need-same-length-2
-same-length-2 c = c.before.before.insert-at.ensures.size
+shape_of-s : tie.Need-shape_of-s
+shape_of-s c = c.before.before.insert_at.ensures.size
 
-returns-2 : tie.Need-returns-2
-returns-2 c =
-    let o = c.before.before.insert-at.ensures in
+returns : tie.Need-returns
+returns c =
+    let o = c.before.before.insert_at.ensures in
     let d = c.before.before.before.before in
     let s = from d in
     record {
       size = o.size;
       room = omega (arith, room d, o.size);
-      front = o.front ∙ rw (ranked d).rank.ensures (include-rank self s.args.x (front s) (new d));
+      front = o.front ∙ rw (ranked d).rank-k.ensures (include-rank self s.args.x (front s) (new d));
     }
 
-pub include-spec : {M : Type 1} → statement M
-include-spec =
+pub include_spec : {M : Type 1} → statement M
+include_spec =
     tie.close
     (tie.spec
-    rank-requires
+    rank-k-requires
     stands-requires
-    same_length
-    returns
-    insert-at-requires
-    add-result
-    same-length-2
-    returns-2)
+    shape_of-s-then-stands
+    returns-then-stands
+    insert_at-requires
+    overflow_add-result
+    shape_of-s
+    returns)

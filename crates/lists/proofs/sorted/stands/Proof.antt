@@ -10,21 +10,21 @@ use borrow.Author.Rules.{rules}
 use Rattle.lists.proofs.sorted.stands.Statement.{statement}
 use Rattle.lists.proofs.sorted.stands.Tie as tie
 
-mul-result : tie.Need-overflow-mul-result
-mul-result c = search rules
+offset_bounds-s-k : tie.Need-offset_bounds-s-k
+offset_bounds-s-k c = search rules
 
-shared-slice-read-result : tie.Need-shared-slice-read-result
-shared-slice-read-result c = search rules
+bounds-s-k : tie.Need-bounds-s-k
+bounds-s-k c = search rules
 
-returns : tie.Need-returns
-returns c =
+returns-then-k-n : tie.Need-returns-then-k-n
+returns-then-k-n c =
     let a = c.before.before.args in
     sym (ap (leads self a.x) (rest-cons _ a.s.now a.k a.n (omega arith) (omega arith)))
 
-returns-2 : tie.Need-returns-2
-returns-2 c =
+returns-else-k-n : tie.Need-returns-else-k-n
+returns-else-k-n c =
     let a = c.before.args in
-    le-ltb _ _ c.if1.false ∙ sym (ap (leads self a.x) (rest_end a.s.now a.k a.n (omega arith) (omega arith)))
+    le-ltb _ _ c.if-k-n.false ∙ sym (ap (leads self a.x) (rest_end a.s.now a.k a.n (omega arith) (omega arith)))
 
-pub stands-spec : {M : Type 1} → statement M
-stands-spec = tie.close (tie.spec mul-result shared-slice-read-result returns returns-2)
+pub stands_spec : {M : Type 1} → statement M
+stands_spec = tie.close (tie.spec offset_bounds-s-k bounds-s-k returns-then-k-n returns-else-k-n)
