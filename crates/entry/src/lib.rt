@@ -12,7 +12,7 @@ use lists::slices::contains;
 use lists::sorted::{include, insert_at};
 use types::{RecordKey, Shard, Time, Transaction};
 
-#[derive(Drop)]
+#[derive(Clone, Copy)]
 pub enum Part {
     Whole,
     Leg,
@@ -22,7 +22,7 @@ pub enum Part {
 
 // departed_by is shard 0 while no record names the entry. An edge's id, from-shard, kind (1 owed) and number of destinations stand at its
 // place in four arrays; the destinations lie joined in a fifth. Absences rise by shard and then key, marks rise.
-#[derive(Drop)]
+#[derive(Clone, Copy)]
 pub struct Entry {
     pub tx: Transaction,
     pub at: Time,

@@ -6,7 +6,7 @@ use store::issuers::Issuers;
 use store::roster::Roster;
 use types::Shard;
 
-#[derive(Drop)]
+#[derive(Clone, Copy)]
 pub struct Ledger {
     pub local: Shard,
     pub validity: u64,
@@ -20,7 +20,7 @@ pub struct Ledger {
 }
 
 // What a changing call says: 0 or its refusal, its answers (0 where it has none), and the ledger after it.
-#[derive(Drop)]
+#[derive(Clone, Copy)]
 pub struct Done {
     pub refused: u64,
     pub answers: [u64; 3],

@@ -10,7 +10,7 @@ use lists::Found;
 use types::{Shard, Time};
 
 // until is 0 while the departure is unstamped.
-#[derive(Drop)]
+#[derive(Clone, Copy)]
 pub struct Departure {
     pub shard: Shard,
     pub cut: Time,
@@ -18,7 +18,7 @@ pub struct Departure {
     pub stamped: bool,
 }
 
-#[derive(Drop)]
+#[derive(Clone, Copy)]
 pub struct Departures {
     pub items: [Departure; 32],
     pub len: usize,

@@ -9,7 +9,7 @@ ghost use Rattle.types.specs.Transactions.{number_of};
 use lists::sorted::insert_at;
 use types::{RecordKey, Transaction};
 
-#[derive(Drop)]
+#[derive(Clone, Copy)]
 pub struct Issuers {
     pub records: [u64; 384],
     pub transactions: [u64; 384],

@@ -9,7 +9,7 @@ use crate::issuers::{Issuers, transaction_at};
 use crate::roster::Roster;
 
 // Transactions at the front of an array.
-#[derive(Drop)]
+#[derive(Clone, Copy)]
 pub struct Dropped {
     pub transactions: [u64; 48],
     pub len: usize,

@@ -8,7 +8,7 @@ ghost use Rattle.types.specs.Transactions.{number_of};
 use lists::Found;
 use types::Transaction;
 
-#[derive(Drop)]
+#[derive(Clone, Copy)]
 pub struct Roster {
     pub keys: [u64; 48],
     pub slots: [usize; 48],

@@ -1,5 +1,7 @@
 // Times, shards, transactions and record keys: a tuple struct around each number, so that none passes for another. Their checks,
 // a shard's depth and the routes it owns, record keys and cell keys.
+#![tactic(auto)]
+
 pub mod widths;
 
 ghost use Rattle.std.specs.Prelude.{◌≡◌, ◌+◌, ◌≤◌, true, length, ◌==◌, nat_le, nat_lt};
@@ -12,18 +14,18 @@ ghost use Rattle.types.specs.Transactions.{number_of};
 use lists::slices::{contains, word_at};
 
 // A time in milliseconds.
-#[derive(Drop)]
+#[derive(Clone, Copy)]
 pub struct Time(pub u64);
 
 // A shard, by the path to it from the root: the highest one bit, then a bit a level.
-#[derive(Drop)]
+#[derive(Clone, Copy)]
 pub struct Shard(pub u64);
 
-#[derive(Drop)]
+#[derive(Clone, Copy)]
 pub struct Transaction(pub u64);
 
 // Where a crossing's record is kept.
-#[derive(Drop)]
+#[derive(Clone, Copy)]
 pub struct RecordKey(pub u64);
 
 pub fn is_time(n: u64) -> bool

@@ -6,11 +6,11 @@ use Rattle.types.proofs.Bits.{first, second}
 use Rattle.types.proofs.is_span.Statement.{statement}
 use Rattle.types.proofs.is_span.Tie as tie
 
-returns : tie.Need-returns
-returns c = second (leb 1 c.before.args.n) (leb c.before.args.n (2 ^ 40)) (le-leb 1 c.before.args.n c.if1.true)
+returns-then-n-ge1 : tie.Need-returns-then-n-ge1
+returns-then-n-ge1 c = second (leb 1 c.before.args.n) (leb c.before.args.n (2 ^ 40)) (le-leb 1 c.before.args.n c.if-n-ge1.true)
 
-returns-2 : tie.Need-returns-2
-returns-2 c = first (leb 1 c.before.args.n) (leb c.before.args.n (2 ^ 40)) (lt-leb 1 c.before.args.n c.if1.false)
+returns-else-n-ge1 : tie.Need-returns-else-n-ge1
+returns-else-n-ge1 c = first (leb 1 c.before.args.n) (leb c.before.args.n (2 ^ 40)) (lt-leb 1 c.before.args.n c.if-n-ge1.false)
 
-pub is-span-spec : {M : Type 1} → statement M
-is-span-spec = tie.close (tie.spec returns returns-2)
+pub is_span_spec : {M : Type 1} → statement M
+is_span_spec = tie.close (tie.spec returns-then-n-ge1 returns-else-n-ge1)

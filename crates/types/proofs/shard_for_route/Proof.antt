@@ -5,20 +5,20 @@ use Rattle.types.proofs.Bits.{led}
 use Rattle.types.proofs.shard_for_route.Statement.{statement}
 use Rattle.types.proofs.shard_for_route.Tie as tie
 
-add-led : tie.Need-overflow-add-led
-add-led c = search rules
+overflow_add-led : tie.Need-overflow_add-led
+overflow_add-led c = search rules
 
-sub-t5 : tie.Need-overflow-sub-t5
-sub-t5 c = omega (arith, leb-true c.args.d 32 c.requires)
+overflow_sub-result : tie.Need-overflow_sub-result
+overflow_sub-result c = omega (arith, leb-true c.args.d 32 c.requires)
 
-cast-t4 : tie.Need-overflow-cast-t4
-cast-t4 c = search rules
+overflow_cast-result : tie.Need-overflow_cast-result
+overflow_cast-result c = search rules
 
-shr-t6 : tie.Need-overflow-shr-t6
-shr-t6 c = search rules
+overflow_shr-result : tie.Need-overflow_shr-result
+overflow_shr-result c = search rules
 
 returns : tie.Need-returns
 returns c = led c.args.d (63 - c.args.d) c.args.route (omega (arith, leb-true c.args.d 32 c.requires))
 
-pub shard-for-route-spec : {M : Type 1} → statement M
-shard-for-route-spec = tie.close (tie.spec add-led sub-t5 cast-t4 shr-t6 returns)
+pub shard_for_route_spec : {M : Type 1} → statement M
+shard_for_route_spec = tie.close (tie.spec overflow_add-led overflow_sub-result overflow_cast-result overflow_shr-result returns)

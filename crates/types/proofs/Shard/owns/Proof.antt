@@ -15,22 +15,22 @@ shift c =
     let t = known c.before in
     omega (arith, c.depth.ensures, t.zeros, t.deep)
 
-add-led : tie.Need-overflow-add-led
-add-led c = search rules
+overflow_add-led : tie.Need-overflow_add-led
+overflow_add-led c = search rules
 
 depth-requires : tie.Need-depth-requires
 depth-requires c κs = search rules
 
-sub-result : tie.Need-overflow-sub-result
-sub-result c =
+overflow_sub-result : tie.Need-overflow_sub-result
+overflow_sub-result c =
     let t = known c.before in
     omega (arith, c.depth.ensures, t.zeros, t.deep)
 
-cast-result : tie.Need-overflow-cast-result
-cast-result c = omega (arith, shift c, (known c.before).zeros)
+overflow_cast-result : tie.Need-overflow_cast-result
+overflow_cast-result c = omega (arith, shift c, (known c.before).zeros)
 
-shr-result : tie.Need-overflow-shr-result
-shr-result c = omega (arith, shift c, (known c.before).zeros)
+overflow_shr-result : tie.Need-overflow_shr-result
+overflow_shr-result c = omega (arith, shift c, (known c.before).zeros)
 
 returns : tie.Need-returns
 returns c =
@@ -38,5 +38,5 @@ returns c =
     let s = d.before.args in
     ap (λ z. eqb ((s.route / 2 + 2 ^ 63) / 2 ^ z) s.self.0) (shift d) ∙ owned s.self.0 s.route (known d.before)
 
-pub owns-spec : {M : Type 1} → statement M
-owns-spec = tie.close (tie.spec add-led depth-requires sub-result cast-result shr-result returns)
+pub owns_spec : {M : Type 1} → statement M
+owns_spec = tie.close (tie.spec overflow_add-led depth-requires overflow_sub-result overflow_cast-result overflow_shr-result returns)
