@@ -1,7 +1,7 @@
 -- The transactions of an index are words: its type says so of each.
 -- Assumes nothing.
 use Prim.Native.Nat.{ℕ, ◌<◌, ◌^◌}
-use mathlib.Core.List.{List, [], ◌∷◌, map}
+use mathlib.Core.List.{List, [], ◌∷◌}
 use mir.Val.{Val}
 use mir.Syntax.{w64}
 use denote.Laws.{Is}
@@ -18,7 +18,7 @@ use Rattle.store.proofs.issuers.Issuers.TheLaws.{the_laws}
 abbrev pub Word : ℕ → Type 0
 Word n = n < 2 ^ 64
 
-each-words : (xs : List ℕ) (us : List Val) → shadow (each ℕ (UInt w64).own_val (map (λ v. v) xs) us) → Every Word xs
+each-words : (xs : List ℕ) (us : List Val) → shadow (each ℕ (UInt w64).own_val xs us) → Every Word xs
 each-words [] us h = tt
 each-words (x ∷ xs) [] h = absurd h
 each-words (x ∷ xs) (u ∷ us) h = (h.0.1, each-words xs us h.1)

@@ -8,11 +8,11 @@ use Rattle.store.proofs.issuers.is_pair.Tie as tie
 is-requires : tie.Need-is-requires
 is-requires c κs = search rules
 
+returns-then-a-r : tie.Need-returns-then-a-r
+returns-then-a-r c = rw (eq-eqb _ _ c.if-a-r.true) c.is.ensures
+
 returns : tie.Need-returns
-returns c = rw (eq-eqb _ _ c.before.if1.true) c.is.ensures
+returns c = rw (ne_eqb _ _ c.if-a-r.false)
 
-returns-2 : tie.Need-returns-2
-returns-2 c = rw (ne_eqb _ _ c.if1.false)
-
-pub is-pair-spec : {M : Type 1} → statement M
-is-pair-spec = tie.close (tie.spec is-requires returns returns-2)
+pub is_pair_spec : {M : Type 1} → statement M
+is_pair_spec = tie.close (tie.spec is-requires returns-then-a-r returns)

@@ -9,20 +9,18 @@ use Rattle.store.proofs.issuers.leads.Tie as tie
 precedes-requires : tie.Need-precedes-requires
 precedes-requires c κs = search rules
 
+returns-then-a-r : tie.Need-returns-then-a-r
+returns-then-a-r c = rw (lt-ltb _ _ c.if-a-r.true)
+
+returns-then-r-a : tie.Need-returns-then-r-a
+returns-then-r-a c =
+    let s = c.args in
+    rw (le-ltb _ _ c.if-a-r.false, ne_eqb s.a.0 s.r.0 (omega arith))
+
 returns : tie.Need-returns
-returns c = rw (lt-ltb _ _ c.if1.true)
+returns c =
+    let s = c.args in
+    rw (le-ltb _ _ c.if-a-r.false, eq-eqb s.a.0 s.r.0 (omega (arith, c.if-r-a.false, c.if-a-r.false))) c.precedes.ensures
 
-returns-2 : tie.Need-returns-2
-returns-2 c =
-    let o = c.before.before.before in
-    let s = o.before.before.before.args in
-    rw (le-ltb _ _ o.if1.false, ne_eqb s.a.0 s.r.0 (omega arith))
-
-returns-3 : tie.Need-returns-3
-returns-3 c =
-    let o = c.before.before.before.before in
-    let s = o.before.before.before.args in
-    rw (le-ltb _ _ o.if1.false, eq-eqb s.a.0 s.r.0 (omega (arith, c.before.if2.false, o.if1.false))) c.precedes.ensures
-
-pub leads-spec : {M : Type 1} → statement M
-leads-spec = tie.close (tie.spec returns returns-2 precedes-requires returns-3)
+pub leads_spec : {M : Type 1} → statement M
+leads_spec = tie.close (tie.spec returns-then-a-r returns-then-r-a precedes-requires returns)

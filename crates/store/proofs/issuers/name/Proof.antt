@@ -56,65 +56,58 @@ put_in s k us vs h f m o p =
       rw q (every_include pair_key OfWord (e s) (l s) (is_word s) s.requires.2),
     )
 
-abbrev from : tie.Else1 → tie.Start
-from c = c.before.before.before.before.before.before.before
+abbrev from : tie.Else-stands_at → tie.Start
+from c = c.before.before.before
 
-new : (c : tie.Else1) → has pair_key (pair_key (e (from c))) (l (from c)) ≡ false
-new c = stands (from c) _ false c.before.stands_at.ensures c.if1.false
+new : (c : tie.Else-stands_at) → has pair_key (pair_key (e (from c))) (l (from c)) ≡ false
+new c = stands (from c) _ false c.stands_at.ensures c.if-stands_at.false
 
-room : (c : tie.Else1) → Room (from c) c.before.before.before.before.rank.result
+room : (c : tie.Else-stands_at) → Room (from c) c.rank-k.result
 room c =
     let s = from c in
-    let n = pairs-length (whole s) s.pre.0 in
+    let n = pairs-length (whole s) s.requires.0 in
     record {
-      place = omega (arith, n, c.before.before.before.before.rank.ensures, rank_le (is_before s.args.r.0 (number_of s.args.t)) (l s));
-      more = omega (arith, n, s.pre.3, length-include_new pair_key (e s) (l s) (new c));
+      place = omega (arith, n, c.rank-k.ensures, rank_le (is_before s.args.r.0 (number_of s.args.t)) (l s));
+      more = omega (arith, n, s.requires.3, length-include_new pair_key (e s) (l s) (new c));
     }
 
-rank-requires : tie.Need-rank-requires
-rank-requires c κs = search rules
+rank-k-requires : tie.Need-rank-k-requires
+rank-k-requires c κs = search rules
 
-stands-at-requires : tie.Need-stands-at-requires
-stands-at-requires c κs =
-    let k = c.before.before in
-    let s = k.before.before.before in
-    (s.requires.0, s.requires.1, s.requires.2, k.rank.ensures)
+stands_at-requires : tie.Need-stands_at-requires
+stands_at-requires c κs =
+    (c.requires.0, c.requires.1, c.requires.2, c.rank-k.ensures)
 
-returns : tie.Need-returns
-returns c =
-    let s = c.before.before.before.before.before.before.before in
-    let q = include-known pair_key (e s) (l s) s.requires.1 (stands s _ true c.before.stands_at.ensures c.if1.true) in
-    (record { sound = s.requires.0; pairs = sym q }, s.requires.2)
+returns-then-stands_at : tie.Need-returns-then-stands_at
+returns-then-stands_at c =
+    let q = include-known pair_key (e c.before.before.before) (l c.before.before.before) c.requires.1 (stands c.before.before.before _ true c.stands_at.ensures c.if-stands_at.true) in
+    (record { sound = c.requires.0; pairs = sym q }, c.requires.2)
 
-insert-at-requires : tie.Need-insert-at-requires
-insert-at-requires c κs =
+insert_at-requires : tie.Need-insert_at-requires
+insert_at-requires c κs =
     let m = room c.before in
     (m.place, omega (arith, m.more, (from c.before).requires.0.record_length))
 
-insert-at-requires-2 : tie.Need-insert-at-requires-2
-insert-at-requires-2 c κs =
-    let b = c.before.before.before in
-    let m = room b in
-    (m.place, omega (arith, m.more, (from b).requires.0.transaction_length))
+insert_at-requires-2 : tie.Need-insert_at-requires-2
+insert_at-requires-2 c κs =
+    let m = room c.before.before.before in
+    (m.place, omega (arith, m.more, (from c.before.before.before).requires.0.transaction_length))
 
-add-result : tie.Need-overflow-add-result
-add-result c = search rules
+overflow_add-result : tie.Need-overflow_add-result
+overflow_add-result c = search rules
 
-returns-2 : tie.Need-returns-2
-returns-2 c =
-    let i = c.before.before in
-    let b = i.before.before in
-    let k = b.before.before.before.before in
-    put_in (from b) k.rank.result _ _ (new b) k.rank.ensures (room b) i.insert-at.ensures c.insert-at2.ensures
+returns : tie.Need-returns
+returns c =
+    put_in (from c.before.before.before.before) c.rank-k.result _ _ (new c.before.before.before.before) c.rank-k.ensures (room c.before.before.before.before) c.insert_at.ensures c.insert_at-2.ensures
 
-pub name-spec : {M : Type 1} → statement M
-name-spec =
+pub name_spec : {M : Type 1} → statement M
+name_spec =
     tie.close
     (tie.spec
-    rank-requires
-    stands-at-requires
-    returns
-    insert-at-requires
-    insert-at-requires-2
-    add-result
-    returns-2)
+    rank-k-requires
+    stands_at-requires
+    returns-then-stands_at
+    insert_at-requires
+    insert_at-requires-2
+    overflow_add-result
+    returns)

@@ -14,93 +14,91 @@ use borrow.Author.Rules.{rules}
 use Rattle.store.proofs.issuers.rank.Statement.{statement}
 use Rattle.store.proofs.issuers.rank.Tie as tie
 
-abbrev invariant-loop : tie.invariant-loop
-invariant-loop records transactions n r t low₀ high₀ low high =
+abbrev invariant-loop-low : tie.invariant-loop-low
+invariant-loop-low records transactions n r t low₀ high₀ low high =
     let k = rank (is_before r.0 t.0) (pairs_in (made records transactions n)) in
     (low ≤ k) × (k ≤ high) × (high ≤ n)
 
-abbrev decreases-loop : tie.decreases-loop
-decreases-loop records transactions n r t low₀ high₀ low high = high - low
+abbrev decreases-loop-low : tie.decreases-loop-low
+decreases-loop-low records transactions n r t low₀ high₀ low high = high - low
 
-abbrev whole : tie.Start invariant-loop decreases-loop → Issuers
+abbrev whole : tie.Start invariant-loop-low decreases-loop-low → Issuers
 whole s = made s.args.records.now s.args.transactions.now s.args.n
 
-is_word : (s : tie.Start invariant-loop decreases-loop) → Word (number_of s.args.t)
+is_word : (s : tie.Start invariant-loop-low decreases-loop-low) → Word (number_of s.args.t)
 is_word s = search rules
 
-loop-holds : tie.Need-loop-init invariant-loop decreases-loop
-loop-holds c =
+loop-low-init : tie.Need-loop-low-init invariant-loop-low decreases-loop-low
+loop-low-init c =
     let x = whole c in
     (omega arith, omega (arith, rank_le (is_before c.args.r.0 (number_of c.args.t)) (pairs_in x), pairs-length x c.requires.0), omega arith)
 
-add-mid : tie.Need-overflow-add-mid invariant-loop decreases-loop
-add-mid c = search rules
+overflow_add-mid : tie.Need-overflow_add-mid invariant-loop-low decreases-loop-low
+overflow_add-mid c = search rules
 
-mul-t10 : tie.Need-overflow-mul-t10 invariant-loop decreases-loop
-mul-t10 c = search rules
+offset_bounds-records-mid : tie.Need-offset_bounds-records-mid invariant-loop-low decreases-loop-low
+offset_bounds-records-mid c = search rules
 
-element-copy-out-t14 : tie.Need-element-copy-out-t14 invariant-loop decreases-loop
-element-copy-out-t14 c = search rules
+bounds-records-mid : tie.Need-bounds-records-mid invariant-loop-low decreases-loop-low
+bounds-records-mid c = search rules
 
-mul-t16 : tie.Need-overflow-mul-t16 invariant-loop decreases-loop
-mul-t16 c = search rules
+offset_bounds-transactions-mid : tie.Need-offset_bounds-transactions-mid invariant-loop-low decreases-loop-low
+offset_bounds-transactions-mid c = search rules
 
-element-copy-out-t19 : tie.Need-element-copy-out-t19 invariant-loop decreases-loop
-element-copy-out-t19 c = search rules
+bounds-transactions-mid : tie.Need-bounds-transactions-mid invariant-loop-low decreases-loop-low
+bounds-transactions-mid c = search rules
 
-leads-requires : tie.Need-leads-requires invariant-loop decreases-loop
+leads-requires : tie.Need-leads-requires invariant-loop-low decreases-loop-low
 leads-requires c κs = search rules
 
-add_low : tie.Need-overflow-add-low invariant-loop decreases-loop
-add_low c = search rules
+overflow_add-low : tie.Need-overflow_add-low invariant-loop-low decreases-loop-low
+overflow_add-low c = search rules
 
-loop-less : tie.Need-loop-smaller invariant-loop decreases-loop
-loop-less c = search rules
+loop-low-smaller-then-leads : tie.Need-loop-low-smaller-then-leads invariant-loop-low decreases-loop-low
+loop-low-smaller-then-leads c = search rules
 
-loop-again : tie.Need-loop-preserved invariant-loop decreases-loop
-loop-again c =
-    let l = c.before.before.before.before.before.loop in
-    let s = c.before.before.before.before.before.before in
-    let x = whole s in
+loop-low-preserved-then-leads : tie.Need-loop-low-preserved-then-leads invariant-loop-low decreases-loop-low
+loop-low-preserved-then-leads c =
+    let l = c.loop-low in
+    let x = whole c.before.before.before.before.before.before.before.before in
     let ps = pairs_in x in
-    let size = pairs-length x s.requires.0 in
+    let size = pairs-length x c.requires.0 in
     let mid = (l.low + l.high) / 2 in
-    let told = pairs-told x (is_before s.args.r.0 (number_of s.args.t)) mid _ _ s.requires.0 (omega arith) c.before.leads.ensures c.if1.true in
-    (omega (arith, rank_low s.args.r.0 (number_of s.args.t) (is_word s) ps s.requires.2 mid s.requires.1 (omega (arith, size)) told), l.invariant.1, l.invariant.2)
+    let told = pairs-told x (is_before c.args.r.0 (number_of c.args.t)) mid _ _ c.requires.0 (omega arith) c.leads.ensures c.if-leads.true in
+    (omega (arith, rank_low c.args.r.0 (number_of c.args.t) (is_word c.before.before.before.before.before.before.before.before) ps c.requires.2 mid c.requires.1 (omega (arith, size)) told), l.invariant.1, l.invariant.2)
 
-loop-less-2 : tie.Need-loop-smaller-2 invariant-loop decreases-loop
-loop-less-2 c = search rules
+loop-low-smaller : tie.Need-loop-low-smaller invariant-loop-low decreases-loop-low
+loop-low-smaller c = search rules
 
-loop-again-2 : tie.Need-loop-preserved-2 invariant-loop decreases-loop
-loop-again-2 c =
-    let l = c.before.before.before.before.before.loop in
-    let s = c.before.before.before.before.before.before in
-    let x = whole s in
+loop-low-preserved : tie.Need-loop-low-preserved invariant-loop-low decreases-loop-low
+loop-low-preserved c =
+    let l = c.loop-low in
+    let x = whole c.before.before.before.before.before.before.before.before in
     let ps = pairs_in x in
-    let size = pairs-length x s.requires.0 in
+    let size = pairs-length x c.requires.0 in
     let mid = (l.low + l.high) / 2 in
-    let told = pairs-told x (is_before s.args.r.0 (number_of s.args.t)) mid _ _ s.requires.0 (omega arith) c.before.leads.ensures c.if1.false in
-    (l.invariant.0, rank_high s.args.r.0 (number_of s.args.t) (is_word s) ps s.requires.2 mid (omega (arith, size)) told, omega arith)
+    let told = pairs-told x (is_before c.args.r.0 (number_of c.args.t)) mid _ _ c.requires.0 (omega arith) c.leads.ensures c.if-leads.false in
+    (l.invariant.0, rank_high c.args.r.0 (number_of c.args.t) (is_word c.before.before.before.before.before.before.before.before) ps c.requires.2 mid (omega (arith, size)) told, omega arith)
 
-returns : tie.Need-returns invariant-loop decreases-loop
+returns : tie.Need-returns invariant-loop-low decreases-loop-low
 returns c = omega arith
 
-pub rank-spec : {M : Type 1} → statement M
-rank-spec =
+pub rank_spec : {M : Type 1} → statement M
+rank_spec =
     tie.close
     (tie.spec
-    invariant-loop
-    decreases-loop
-    loop-holds
-    add-mid
-    mul-t10
-    element-copy-out-t14
-    mul-t16
-    element-copy-out-t19
+    invariant-loop-low
+    decreases-loop-low
+    loop-low-init
+    overflow_add-mid
+    offset_bounds-records-mid
+    bounds-records-mid
+    offset_bounds-transactions-mid
+    bounds-transactions-mid
     leads-requires
-    add_low
-    loop-less
-    loop-again
-    loop-less-2
-    loop-again-2
+    overflow_add-low
+    loop-low-smaller-then-leads
+    loop-low-preserved-then-leads
+    loop-low-smaller
+    loop-low-preserved
     returns)

@@ -21,47 +21,45 @@ whole s = made s.args.records.now s.args.transactions.now s.args.n
 is_word : (s : tie.Start) → Word (number_of s.args.t)
 is_word s = search rules
 
-mul-t8 : tie.Need-overflow-mul-t8
-mul-t8 c = search rules
+offset_bounds-records-k : tie.Need-offset_bounds-records-k
+offset_bounds-records-k c = search rules
 
-element-copy-out-t11 : tie.Need-element-copy-out-t11
-element-copy-out-t11 c = search rules
+bounds-records-k : tie.Need-bounds-records-k
+bounds-records-k c = search rules
 
-mul-t13 : tie.Need-overflow-mul-t13
-mul-t13 c = search rules
+offset_bounds-transactions-k : tie.Need-offset_bounds-transactions-k
+offset_bounds-transactions-k c = search rules
 
-element-copy-out-t16 : tie.Need-element-copy-out-t16
-element-copy-out-t16 c = search rules
+bounds-transactions-k : tie.Need-bounds-transactions-k
+bounds-transactions-k c = search rules
 
-is-pair-requires : tie.Need-is-pair-requires
-is-pair-requires c κs = search rules
+is_pair-requires : tie.Need-is_pair-requires
+is_pair-requires c κs = search rules
 
 -- what stands at the rank tells whether the pair stands
 at : (s : tie.Start) → names (pairs_in (whole s)) s.args.r.0 (number_of s.args.t) ≡ leads pair_key (pair_key (pair s.args.r.0 (number_of s.args.t))) (drop s.args.k (pairs_in (whole s)))
 at s = rw s.requires.3 (names-rank s.args.r.0 (number_of s.args.t) (is_word s) (pairs_in (whole s)) s.requires.2 s.requires.1)
 
+returns-then-k-n : tie.Need-returns-then-k-n
+returns-then-k-n c =
+    let x = whole c.before.before.before.before.before.before in
+    let p = is_pair c.args.r.0 (number_of c.args.t) in
+    let here = pairs-told x p c.args.k _ _ c.requires.0 (omega arith) c.is_pair.ensures refl in
+    sym (at c.before.before.before.before.before.before ∙ leads-pair c.args.r.0 (number_of c.args.t) (is_word c.before.before.before.before.before.before) (pairs_in x) c.requires.2 c.args.k (omega (arith, pairs-length x c.requires.0)) ∙ here)
+
 returns : tie.Need-returns
 returns c =
-    let s = c.before.before.before.before in
-    let x = whole s in
-    let p = is_pair s.args.r.0 (number_of s.args.t) in
-    let here = pairs-told x p s.args.k _ _ s.requires.0 (omega arith) c.is-pair.ensures refl in
-    sym (at s ∙ leads-pair s.args.r.0 (number_of s.args.t) (is_word s) (pairs_in x) s.requires.2 s.args.k (omega (arith, pairs-length x s.requires.0)) ∙ here)
+    let x = whole c.before in
+    sym (at c.before ∙ leads-none c.args.r.0 (number_of c.args.t) (is_word c.before) (pairs_in x) c.requires.2 c.args.k (omega (arith, pairs-length x c.requires.0)))
 
-returns-2 : tie.Need-returns-2
-returns-2 c =
-    let s = c.before in
-    let x = whole s in
-    sym (at s ∙ leads-none s.args.r.0 (number_of s.args.t) (is_word s) (pairs_in x) s.requires.2 s.args.k (omega (arith, pairs-length x s.requires.0)))
-
-pub stands-at-spec : {M : Type 1} → statement M
-stands-at-spec =
+pub stands_at_spec : {M : Type 1} → statement M
+stands_at_spec =
     tie.close
     (tie.spec
-    mul-t8
-    element-copy-out-t11
-    mul-t13
-    element-copy-out-t16
-    is-pair-requires
-    returns
-    returns-2)
+    offset_bounds-records-k
+    bounds-records-k
+    offset_bounds-transactions-k
+    bounds-transactions-k
+    is_pair-requires
+    returns-then-k-n
+    returns)

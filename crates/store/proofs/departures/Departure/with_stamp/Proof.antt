@@ -4,11 +4,11 @@
 use Rattle.store.proofs.departures.Departure.with_stamp.Statement.{statement}
 use Rattle.store.proofs.departures.Departure.with_stamp.Tie as tie
 
+returns-then-d : tie.Need-returns-then-d
+returns-then-d c = rw c.if-d.true
+
 returns : tie.Need-returns
-returns c = rw c.if1.true
+returns c = rw c.if-d.false
 
-returns-2 : tie.Need-returns-2
-returns-2 c = rw c.if1.false
-
-pub with-stamp-spec : {M : Type 1} → statement M
-with-stamp-spec = tie.close (tie.spec returns returns-2)
+pub with_stamp_spec : {M : Type 1} → statement M
+with_stamp_spec = tie.close (tie.spec returns-then-d returns)

@@ -23,52 +23,48 @@ e s = record { shard = s.args.shard.0; cut = s.args.cut.0; stamp = none }
 abbrev l : tie.Start → List plain.Departure
 l s = on_file s.args.self
 
-new : (c : tie.After-rank) → has shard_of c.before.before.before.before.args.shard.0 (l c.before.before.before.before) ≡ false
+new : (c : tie.After-rank-k) → has shard_of c.args.shard.0 (l c.before.before.before) ≡ false
 new c =
-    let s = c.before.before.before.before in
-    (missing shard_of s.args.shard.0 (l s) (sym c.before.before.before.find.ensures ∙ c.before.enum_told.given.1)).known
+    (missing shard_of c.args.shard.0 (l c.before.before.before) (sym c.find.ensures ∙ c.in-Nothing.is)).known
 
 find-requires : tie.Need-find-requires
 find-requires c κs = search rules
 
-enum_told : tie.Need-enum-told
-enum_told c = search rules
+enum_told-1 : tie.Need-enum_told-1
+enum_told-1 c = search rules
 
-enum-told-2 : tie.Need-enum-told-2
-enum-told-2 c = search rules
+enum_told-in_default : tie.Need-enum_told-in_default
+enum_told-in_default c = search rules
+
+returns-in_default : tie.Need-returns-in_default
+returns-in_default c =
+    record {
+      sound = c.requires.0;
+      file = sym (include-known shard_of (e c.before.before) (l c.before.before) c.requires.1
+          (located shard_of c.args.shard.0 (l c.before.before) _ (sym c.find.ensures ∙ c.in_default.is)).known);
+    }
+
+rank-k-requires : tie.Need-rank-k-requires
+rank-k-requires c κs = search rules
+
+insert_at-requires : tie.Need-insert_at-requires
+insert_at-requires c κs =
+    let n = file-length c.args.self c.requires.0 in (
+      c.requires.0,
+      omega (arith, n, c.rank-k.ensures, rank_le (is_under c.args.shard.0) (l c.before.before.before)),
+      omega (arith, n, c.requires.2, length-include_new shard_of (e c.before.before.before) (l c.before.before.before) (new c)),
+    )
 
 returns : tie.Need-returns
 returns c =
-    let s = c.before.before.before in
     record {
-      sound = s.requires.0;
-      file = sym (include-known shard_of (e s) (l s) s.requires.1
-          (located shard_of s.args.shard.0 (l s) _ (sym c.before.before.find.ensures ∙ c.enum-told2.given.1)).known);
+      sound = c.insert_at.ensures.sound;
+      file = c.insert_at.ensures.file
+          ∙ ap (λ k. insert_at k (e c.before.before.before.before) (l c.before.before.before.before)) c.rank-k.ensures
+          ∙ include-rank shard_of (e c.before.before.before.before) (l c.before.before.before.before) (new c.before);
     }
 
-rank-requires : tie.Need-rank-requires
-rank-requires c κs = search rules
-
-insert-at-requires : tie.Need-insert-at-requires
-insert-at-requires c κs =
-    let s = c.before.before.before.before in
-    let n = file-length s.args.self s.requires.0 in (
-      s.requires.0,
-      omega (arith, n, c.rank.ensures, rank_le (is_under s.args.shard.0) (l s)),
-      omega (arith, n, s.requires.2, length-include_new shard_of (e s) (l s) (new c)),
-    )
-
-returns-2 : tie.Need-returns-2
-returns-2 c =
-    let s = c.before.before.before.before.before in
-    record {
-      sound = c.insert-at.ensures.sound;
-      file = c.insert-at.ensures.file
-          ∙ ap (λ k. insert_at k (e s) (l s)) c.before.rank.ensures
-          ∙ include-rank shard_of (e s) (l s) (new c.before);
-    }
-
-pub departed-spec : {M : Type 1} → statement M
-departed-spec =
+pub departed_spec : {M : Type 1} → statement M
+departed_spec =
     tie.close
-    (tie.spec find-requires enum_told enum-told-2 returns rank-requires insert-at-requires returns-2)
+    (tie.spec find-requires enum_told-1 enum_told-in_default returns-in_default rank-k-requires insert_at-requires returns)

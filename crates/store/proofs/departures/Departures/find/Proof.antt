@@ -13,64 +13,61 @@ use borrow.Author.Rules.{rules}
 use Rattle.store.proofs.departures.Departures.find.Statement.{statement}
 use Rattle.store.proofs.departures.Departures.find.Tie as tie
 
-abbrev invariant-loop : tie.invariant-loop
-invariant-loop shard self n i₀ i = (n ≡ self.len) × (i ≤ n) × (place (is_of shard.0) i (drop i (take self.len (all self))) ≡ place (is_of shard.0) 0 (on_file self))
+abbrev invariant-loop-i : tie.invariant-loop-i
+invariant-loop-i shard self n i₀ i = (n ≡ self.len) × (i ≤ n) × (place (is_of shard.0) i (drop i (take self.len (all self))) ≡ place (is_of shard.0) 0 (on_file self))
 
-abbrev decreases-loop : tie.decreases-loop
-decreases-loop shard self n i₀ i = n - i
+abbrev decreases-loop-i : tie.decreases-loop-i
+decreases-loop-i shard self n i₀ i = n - i
 
-loop-holds : tie.Need-loop-init invariant-loop decreases-loop
-loop-holds c = (refl, search rules, ap (place (is_of c.args.shard.0) 0) (all-front c.args.t1))
+loop-i-init : tie.Need-loop-i-init invariant-loop-i decreases-loop-i
+loop-i-init c = (refl, search rules, ap (place (is_of c.args.shard.0) 0) (all-front c.args.self))
 
-mul-if1 : tie.Need-overflow-mul-if1 invariant-loop decreases-loop
-mul-if1 c = search rules
+offset_bounds-self-i : tie.Need-offset_bounds-self-i invariant-loop-i decreases-loop-i
+offset_bounds-self-i c = search rules
 
-element-copy-out-if1 : tie.Need-element-copy-out-if1 invariant-loop decreases-loop
-element-copy-out-if1 c = search rules
+bounds-self-i : tie.Need-bounds-self-i invariant-loop-i decreases-loop-i
+bounds-self-i c = search rules
 
-returns : tie.Need-returns invariant-loop decreases-loop
+returns-then-self-i : tie.Need-returns-then-self-i invariant-loop-i decreases-loop-i
+returns-then-self-i c =
+    let l = c.loop-i in
+    let x = c.args.self in
+    let p = is_of c.args.shard.0 in
+    let h : length (all x) ≡ 32 = all-length x c.requires in
+    sym (place_hit p _ (all x) l.i x.len (omega arith) (omega arith) (ap p (all-at x l.i _) ∙ eq-eqb _ _ c.if-self-i.true)) ∙ l.invariant.2
+
+overflow_add-i : tie.Need-overflow_add-i invariant-loop-i decreases-loop-i
+overflow_add-i c = search rules
+
+loop-i-smaller : tie.Need-loop-i-smaller invariant-loop-i decreases-loop-i
+loop-i-smaller c = search rules
+
+loop-i-preserved : tie.Need-loop-i-preserved invariant-loop-i decreases-loop-i
+loop-i-preserved c =
+    let l = c.loop-i in
+    let x = c.args.self in
+    let p = is_of c.args.shard.0 in
+    let h : length (all x) ≡ 32 = all-length x c.requires in
+    (refl, search rules, place_miss p _ (all x) l.i x.len (omega arith) (omega arith) (ap p (all-at x l.i _) ∙ ne_eqb _ _ c.if-self-i.false) ∙ l.invariant.2)
+
+returns : tie.Need-returns invariant-loop-i decreases-loop-i
 returns c =
-    let s = c.before.before.before.before in
-    let l = c.before.before.before.loop in
-    let x = s.args.t1 in
-    let p = is_of s.args.shard.0 in
-    let h : length (all x) ≡ 32 = all-length x s.requires in
-    sym (place_hit p _ (all x) l.i x.len (omega arith) (omega arith) (ap p (all-at x l.i _) ∙ eq-eqb _ _ c.if1.true)) ∙ l.invariant.2
-
-add-i : tie.Need-overflow-add-i invariant-loop decreases-loop
-add-i c = search rules
-
-loop-less : tie.Need-loop-smaller invariant-loop decreases-loop
-loop-less c = search rules
-
-loop-again : tie.Need-loop-preserved invariant-loop decreases-loop
-loop-again c =
-    let s = c.before.before.before.before in
-    let l = c.before.before.before.loop in
-    let x = s.args.t1 in
-    let p = is_of s.args.shard.0 in
-    let h : length (all x) ≡ 32 = all-length x s.requires in
-    (refl, search rules, place_miss p _ (all x) l.i x.len (omega arith) (omega arith) (ap p (all-at x l.i _) ∙ ne_eqb _ _ c.if1.false) ∙ l.invariant.2)
-
-returns-2 : tie.Need-returns-2 invariant-loop decreases-loop
-returns-2 c =
-    let s = c.before.before in
-    let l = c.before.loop in
-    let x = s.args.t1 in
-    let h : length (all x) ≡ 32 = all-length x s.requires in
-    sym (place-done (is_of s.args.shard.0) (all x) l.i x.len (omega arith) (omega arith)) ∙ l.invariant.2
+    let l = c.loop-i in
+    let x = c.args.self in
+    let h : length (all x) ≡ 32 = all-length x c.requires in
+    sym (place-done (is_of c.args.shard.0) (all x) l.i x.len (omega arith) (omega arith)) ∙ l.invariant.2
 
 pub find_spec : {M : Type 1} → statement M
 find_spec =
     tie.close
     (tie.spec
-    invariant-loop
-    decreases-loop
-    loop-holds
-    mul-if1
-    element-copy-out-if1
-    returns
-    add-i
-    loop-less
-    loop-again
-    returns-2)
+    invariant-loop-i
+    decreases-loop-i
+    loop-i-init
+    offset_bounds-self-i
+    bounds-self-i
+    returns-then-self-i
+    overflow_add-i
+    loop-i-smaller
+    loop-i-preserved
+    returns)

@@ -15,36 +15,36 @@ use borrow.Author.Rules.{rules}
 use Rattle.store.proofs.departures.Departures.insert_at.Statement.{statement}
 use Rattle.store.proofs.departures.Departures.insert_at.Tie as tie
 
-abbrev invariant-loop : tie.invariant-loop
-invariant-loop k d x₀ n i₀ x i = (n ≡ x₀.len) × (k ≤ i) × (i ≤ n) × (length x.items ≡ 32) × (remove_at i (all x) ≡ remove_at x₀.len (all x₀))
+abbrev invariant-loop-i : tie.invariant-loop-i
+invariant-loop-i k d x₀ n i₀ x i = (n ≡ x₀.len) × (k ≤ i) × (i ≤ n) × (length x.items ≡ 32) × (remove_at i (all x) ≡ remove_at x₀.len (all x₀))
 
-abbrev decreases-loop : tie.decreases-loop
-decreases-loop k d x₀ n i₀ x i = i
+abbrev decreases-loop-i : tie.decreases-loop-i
+decreases-loop-i k d x₀ n i₀ x i = i
 
-loop-holds : tie.Need-loop-init invariant-loop decreases-loop
-loop-holds c = (refl, search rules, search rules, c.requires.0.item_length, refl)
+loop-i-init : tie.Need-loop-i-init invariant-loop-i decreases-loop-i
+loop-i-init c = (refl, search rules, search rules, c.requires.0.item_length, refl)
 
-sub-j : tie.Need-overflow-sub-j invariant-loop decreases-loop
-sub-j c = search rules
+overflow_sub-j : tie.Need-overflow_sub-j invariant-loop-i decreases-loop-i
+overflow_sub-j c = search rules
 
-mul-e : tie.Need-overflow-mul-e invariant-loop decreases-loop
-mul-e c = search rules
+offset_bounds-x-j : tie.Need-offset_bounds-x-j invariant-loop-i decreases-loop-i
+offset_bounds-x-j c = search rules
 
-element-copy-out-e : tie.Need-element-copy-out-e invariant-loop decreases-loop
-element-copy-out-e c = search rules
+bounds-x-j : tie.Need-bounds-x-j invariant-loop-i decreases-loop-i
+bounds-x-j c = search rules
 
-mul-e-2 : tie.Need-overflow-mul-e-2 invariant-loop decreases-loop
-mul-e-2 c = search rules
+offset_bounds-x-i : tie.Need-offset_bounds-x-i invariant-loop-i decreases-loop-i
+offset_bounds-x-i c = search rules
 
-element-set-from-e : tie.Need-element-set-from-e invariant-loop decreases-loop
-element-set-from-e c = search rules
+bounds-x-i : tie.Need-bounds-x-i invariant-loop-i decreases-loop-i
+bounds-x-i c = search rules
 
-loop-less : tie.Need-loop-smaller invariant-loop decreases-loop
-loop-less c = search rules
+loop-i-smaller : tie.Need-loop-i-smaller invariant-loop-i decreases-loop-i
+loop-i-smaller c = search rules
 
-loop-again : tie.Need-loop-preserved invariant-loop decreases-loop
-loop-again c =
-    let l = c.before.before.loop in
+loop-i-preserved : tie.Need-loop-i-preserved invariant-loop-i decreases-loop-i
+loop-i-preserved c =
+    let l = c.loop-i in
     let x = l.x in
     let h : length (all x) ≡ 32 = length-map x.items plain_departure ∙ l.invariant.3 in (
       search rules,
@@ -56,48 +56,47 @@ loop-again c =
           ∙ l.invariant.4,
     )
 
-mul-d : tie.Need-overflow-mul-d invariant-loop decreases-loop
-mul-d c = search rules
+offset_bounds-x-k : tie.Need-offset_bounds-x-k invariant-loop-i decreases-loop-i
+offset_bounds-x-k c = search rules
 
-element-set-from-d : tie.Need-element-set-from-d invariant-loop decreases-loop
-element-set-from-d c = search rules
+bounds-x-k : tie.Need-bounds-x-k invariant-loop-i decreases-loop-i
+bounds-x-k c = search rules
 
-add-x : tie.Need-overflow-add-x invariant-loop decreases-loop
-add-x c = search rules
+overflow_add-x : tie.Need-overflow_add-x invariant-loop-i decreases-loop-i
+overflow_add-x c = search rules
 
-returns : tie.Need-returns invariant-loop decreases-loop
+returns : tie.Need-returns invariant-loop-i decreases-loop-i
 returns c =
-    let s = c.before.before in
-    let l = c.before.loop in
+    let l = c.loop-i in
     let x = l.x in
-    let x₀ = s.args.self in
-    let e = plain_departure s.args.d in
+    let x₀ = c.args.self in
+    let e = plain_departure c.args.d in
     let h : length (all x) ≡ 32 = length-map x.items plain_departure ∙ l.invariant.3 in
-    let h₀ : length (all x₀) ≡ 32 = all-length x₀ s.requires.0 in
-    let q : l.i ≡ s.args.k = omega arith in
+    let h₀ : length (all x₀) ≡ 32 = all-length x₀ c.requires.0 in
+    let q : l.i ≡ c.args.k = omega arith in
     record {
       sound = record { room = omega arith; item_length = search rules };
       file = sym (read_take plain_departure (x₀.len + 1) _)
-          ∙ ap (take (x₀.len + 1)) (map-set plain_departure x.items s.args.k s.args.d)
-          ∙ inserted (all x₀) (all x) x₀.len s.args.k e (omega arith) (omega arith) (omega arith) (rw q at l.invariant.4)
-          ∙ ap (insert_at s.args.k e) (all-front x₀);
+          ∙ ap (take (x₀.len + 1)) (map-set plain_departure x.items c.args.k c.args.d)
+          ∙ inserted (all x₀) (all x) x₀.len c.args.k e (omega arith) (omega arith) (omega arith) (rw q at l.invariant.4)
+          ∙ ap (insert_at c.args.k e) (all-front x₀);
     }
 
-pub insert-at-spec : {M : Type 1} → statement M
-insert-at-spec =
+pub insert_at_spec : {M : Type 1} → statement M
+insert_at_spec =
     tie.close
     (tie.spec
-    invariant-loop
-    decreases-loop
-    loop-holds
-    sub-j
-    mul-e
-    element-copy-out-e
-    mul-e-2
-    element-set-from-e
-    loop-less
-    loop-again
-    mul-d
-    element-set-from-d
-    add-x
+    invariant-loop-i
+    decreases-loop-i
+    loop-i-init
+    overflow_sub-j
+    offset_bounds-x-j
+    bounds-x-j
+    offset_bounds-x-i
+    bounds-x-i
+    loop-i-smaller
+    loop-i-preserved
+    offset_bounds-x-k
+    bounds-x-k
+    overflow_add-x
     returns)

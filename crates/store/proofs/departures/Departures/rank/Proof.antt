@@ -14,64 +14,61 @@ use borrow.Author.Rules.{rules}
 use Rattle.store.proofs.departures.Departures.rank.Statement.{statement}
 use Rattle.store.proofs.departures.Departures.rank.Tie as tie
 
-abbrev invariant-loop : tie.invariant-loop
-invariant-loop shard self n i₀ i = (n ≡ self.len) × (i ≤ n) × (i + rank (is_under shard.0) (drop i (take self.len (all self))) ≡ rank (is_under shard.0) (on_file self))
+abbrev invariant-loop-i : tie.invariant-loop-i
+invariant-loop-i shard self n i₀ i = (n ≡ self.len) × (i ≤ n) × (i + rank (is_under shard.0) (drop i (take self.len (all self))) ≡ rank (is_under shard.0) (on_file self))
 
-abbrev decreases-loop : tie.decreases-loop
-decreases-loop shard self n i₀ i = n - i
+abbrev decreases-loop-i : tie.decreases-loop-i
+decreases-loop-i shard self n i₀ i = n - i
 
-loop-holds : tie.Need-loop-init invariant-loop decreases-loop
-loop-holds c = (refl, search rules, zero-add _ ∙ ap (rank (is_under c.args.shard.0)) (all-front c.args.t1))
+loop-i-init : tie.Need-loop-i-init invariant-loop-i decreases-loop-i
+loop-i-init c = (refl, search rules, zero-add _ ∙ ap (rank (is_under c.args.shard.0)) (all-front c.args.self))
 
-mul-if1 : tie.Need-overflow-mul-if1 invariant-loop decreases-loop
-mul-if1 c = search rules
+offset_bounds-self-i : tie.Need-offset_bounds-self-i invariant-loop-i decreases-loop-i
+offset_bounds-self-i c = search rules
 
-element-copy-out-if1 : tie.Need-element-copy-out-if1 invariant-loop decreases-loop
-element-copy-out-if1 c = search rules
+bounds-self-i : tie.Need-bounds-self-i invariant-loop-i decreases-loop-i
+bounds-self-i c = search rules
 
-add-i : tie.Need-overflow-add-i invariant-loop decreases-loop
-add-i c = search rules
+overflow_add-i : tie.Need-overflow_add-i invariant-loop-i decreases-loop-i
+overflow_add-i c = search rules
 
-loop-less : tie.Need-loop-smaller invariant-loop decreases-loop
-loop-less c = search rules
+loop-i-smaller : tie.Need-loop-i-smaller invariant-loop-i decreases-loop-i
+loop-i-smaller c = search rules
 
-loop-again : tie.Need-loop-preserved invariant-loop decreases-loop
-loop-again c =
-    let s = c.before.before.before.before in
-    let l = c.before.before.before.loop in
-    let x = s.args.t1 in
-    let p = is_under s.args.shard.0 in
-    let h : length (all x) ≡ 32 = all-length x s.requires in
-    (refl, search rules, rank_hit p _ (all x) l.i x.len (omega arith) (omega arith) (ap p (all-at x l.i _) ∙ lt-ltb _ _ c.if1.true) ∙ l.invariant.2)
+loop-i-preserved : tie.Need-loop-i-preserved invariant-loop-i decreases-loop-i
+loop-i-preserved c =
+    let l = c.loop-i in
+    let x = c.args.self in
+    let p = is_under c.args.shard.0 in
+    let h : length (all x) ≡ 32 = all-length x c.requires in
+    (refl, search rules, rank_hit p _ (all x) l.i x.len (omega arith) (omega arith) (ap p (all-at x l.i _) ∙ lt-ltb _ _ c.if-self-i.true) ∙ l.invariant.2)
 
-returns : tie.Need-returns invariant-loop decreases-loop
+returns-else-self-i : tie.Need-returns-else-self-i invariant-loop-i decreases-loop-i
+returns-else-self-i c =
+    let l = c.loop-i in
+    let x = c.args.self in
+    let p = is_under c.args.shard.0 in
+    let h : length (all x) ≡ 32 = all-length x c.requires in
+    sym (rank_miss p _ (all x) l.i x.len (omega arith) (omega arith) (ap p (all-at x l.i _) ∙ le-ltb _ _ c.if-self-i.false)) ∙ l.invariant.2
+
+returns : tie.Need-returns invariant-loop-i decreases-loop-i
 returns c =
-    let s = c.before.before.before.before in
-    let l = c.before.before.before.loop in
-    let x = s.args.t1 in
-    let p = is_under s.args.shard.0 in
-    let h : length (all x) ≡ 32 = all-length x s.requires in
-    sym (rank_miss p _ (all x) l.i x.len (omega arith) (omega arith) (ap p (all-at x l.i _) ∙ le-ltb _ _ c.if1.false)) ∙ l.invariant.2
+    let l = c.loop-i in
+    let x = c.args.self in
+    let h : length (all x) ≡ 32 = all-length x c.requires in
+    sym (rank-done (is_under c.args.shard.0) (all x) l.i x.len (omega arith) (omega arith)) ∙ l.invariant.2
 
-returns-2 : tie.Need-returns-2 invariant-loop decreases-loop
-returns-2 c =
-    let s = c.before.before in
-    let l = c.before.loop in
-    let x = s.args.t1 in
-    let h : length (all x) ≡ 32 = all-length x s.requires in
-    sym (rank-done (is_under s.args.shard.0) (all x) l.i x.len (omega arith) (omega arith)) ∙ l.invariant.2
-
-pub rank-spec : {M : Type 1} → statement M
-rank-spec =
+pub rank_spec : {M : Type 1} → statement M
+rank_spec =
     tie.close
     (tie.spec
-    invariant-loop
-    decreases-loop
-    loop-holds
-    mul-if1
-    element-copy-out-if1
-    add-i
-    loop-less
-    loop-again
-    returns
-    returns-2)
+    invariant-loop-i
+    decreases-loop-i
+    loop-i-init
+    offset_bounds-self-i
+    bounds-self-i
+    overflow_add-i
+    loop-i-smaller
+    loop-i-preserved
+    returns-else-self-i
+    returns)

@@ -16,75 +16,71 @@ use borrow.Author.Rules.{rules}
 use Rattle.store.proofs.departures.Departures.stamped.Statement.{statement}
 use Rattle.store.proofs.departures.Departures.stamped.Tie as tie
 
-found : (c : tie.After-i) → place (is_of c.before.before.before.args.shard.0) 0 (on_file c.before.before.before.args.self) ≡ At c.i.given.0.0
-found c = sym c.before.before.find.ensures ∙ c.i.given.1
+found : (c : tie.In-At) → place (is_of c.args.shard.0) 0 (on_file c.args.self) ≡ At c.in-At.i
+found c = sym c.find.ensures ∙ c.in-At.is
 
-below : (c : tie.After-i) → c.i.given.0.0 < 32
+below : (c : tie.In-At) → c.in-At.i < 32
 below c =
-    let s = c.before.before.before in
     omega (
       arith,
-      (located shard_of s.args.shard.0 (on_file s.args.self) c.i.given.0.0 (found c)).below,
-      file-length s.args.self s.requires.0,
-      s.requires.0.room,
+      (located shard_of c.args.shard.0 (on_file c.args.self) c.in-At.i (found c)).below,
+      file-length c.args.self c.requires.0,
+      c.requires.0.room,
     )
 
 find-requires : tie.Need-find-requires
 find-requires c κs = search rules
 
-enum-known-i : tie.Need-enum-known-i
-enum-known-i c = search rules
+enum_known-i : tie.Need-enum_known-i
+enum_known-i c = search rules
 
-enum_told : tie.Need-enum-told
-enum_told c = search rules
+enum_told-1 : tie.Need-enum_told-1
+enum_told-1 c = search rules
+
+returns-in_default : tie.Need-returns-in_default
+returns-in_default c =
+    record {
+      sound = c.requires.0;
+      file = sym ((missing shard_of c.args.shard.0 (on_file c.args.self) (sym c.find.ensures ∙ c.in_default.is)).changed
+          (stamped c.args.until.0));
+    }
+
+offset_bounds-x-i : tie.Need-offset_bounds-x-i
+offset_bounds-x-i c = omega (arith, below c)
+
+bounds-x-i : tie.Need-bounds-x-i
+bounds-x-i c = omega (arith, below c)
+
+with_stamp-e-requires : tie.Need-with_stamp-e-requires
+with_stamp-e-requires c κs = search rules
+
+offset_bounds-x-i-2 : tie.Need-offset_bounds-x-i-2
+offset_bounds-x-i-2 c = omega (arith, below c.before.before)
+
+bounds-x-i-2 : tie.Need-bounds-x-i-2
+bounds-x-i-2 c = omega (arith, below c.before.before)
 
 returns : tie.Need-returns
 returns c =
-    let s = c.before.before.before in
+    let x = c.args.self in
+    let h : length x.items ≡ 32 = c.requires.0.item_length in
     record {
-      sound = s.requires.0;
-      file = sym ((missing shard_of s.args.shard.0 (on_file s.args.self) (sym c.before.before.find.ensures ∙ c.enum_told.given.1)).changed
-          (stamped s.args.until.0));
+      sound = record { room = c.requires.0.room; item_length = search rules };
+      file = changed_at plain_departure shard_of c.args.shard.0 (stamped c.args.until.0) _ x.items x.len c.in-At.i c.with_stamp-e.result
+          (omega (arith, c.requires.0.room)) c.requires.1 (found c.before.before) c.with_stamp-e.ensures;
     }
 
-mul-d : tie.Need-overflow-mul-d
-mul-d c = omega (arith, below c.before)
-
-element-copy-out-d : tie.Need-element-copy-out-d
-element-copy-out-d c = omega (arith, below c.before)
-
-with-stamp-requires : tie.Need-with-stamp-requires
-with-stamp-requires c κs = search rules
-
-mul-e : tie.Need-overflow-mul-e
-mul-e c = omega (arith, below c.before.before.before)
-
-element-set-from-e : tie.Need-element-set-from-e
-element-set-from-e c = omega (arith, below c.before.before.before)
-
-returns-2 : tie.Need-returns-2
-returns-2 c =
-    let k = c.before.before.before in
-    let s = k.before.before.before in
-    let x = s.args.self in
-    let h : length x.items ≡ 32 = s.requires.0.item_length in
-    record {
-      sound = record { room = s.requires.0.room; item_length = search rules };
-      file = changed_at plain_departure shard_of s.args.shard.0 (stamped s.args.until.0) _ x.items x.len k.i.given.0.0 c.with-stamp.result
-          (omega (arith, s.requires.0.room)) s.requires.1 (found k) c.with-stamp.ensures;
-    }
-
-pub stamped-spec : {M : Type 1} → statement M
-stamped-spec =
+pub stamped_spec : {M : Type 1} → statement M
+stamped_spec =
     tie.close
     (tie.spec
     find-requires
-    enum-known-i
-    enum_told
-    returns
-    mul-d
-    element-copy-out-d
-    with-stamp-requires
-    mul-e
-    element-set-from-e
-    returns-2)
+    enum_known-i
+    enum_told-1
+    returns-in_default
+    offset_bounds-x-i
+    bounds-x-i
+    with_stamp-e-requires
+    offset_bounds-x-i-2
+    bounds-x-i-2
+    returns)

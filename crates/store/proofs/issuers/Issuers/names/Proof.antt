@@ -8,21 +8,18 @@ use Rattle.store.proofs.issuers.Issuers.names.Statement.{statement}
 use Rattle.store.proofs.issuers.Issuers.names.Tie as tie
 
 worded : (s : tie.Start) → Worded s.args.self
-worded s = pairs-words s.args.self (transaction-words s.args.self _ s.well-formed.0)
+worded s = pairs-words s.args.self (transaction-words s.args.self _ s.well_formed.0)
 
-rank-requires : tie.Need-rank-requires
-rank-requires c κs =
-    let s = c.before.before.before.before in
-    (s.requires.0, s.requires.1, worded s)
+rank-k-requires : tie.Need-rank-k-requires
+rank-k-requires c κs =
+    (c.requires.0, c.requires.1, worded c.before.before.before.before)
 
-stands-at-requires : tie.Need-stands-at-requires
-stands-at-requires c κs =
-    let k = c.before.before in
-    let s = k.before.before.before.before.before in
-    (s.requires.0, s.requires.1, worded s, k.rank.ensures)
+stands_at-requires : tie.Need-stands_at-requires
+stands_at-requires c κs =
+    (c.requires.0, c.requires.1, worded c.before.before.before.before.before.before.before, c.rank-k.ensures)
 
 returns : tie.Need-returns
 returns c = search rules
 
-pub names-spec : {M : Type 1} → statement M
-names-spec = tie.close (tie.spec rank-requires stands-at-requires returns)
+pub names_spec : {M : Type 1} → statement M
+names_spec = tie.close (tie.spec rank-k-requires stands_at-requires returns)

@@ -22,54 +22,54 @@ record Shifting (r₀ : Roster) (n k : ℕ) (r : Roster) (i : ℕ) : Type 0 wher
   keys : remove_at i r.keys ≡ remove_at n r₀.keys
   slots : remove_at i r.slots ≡ remove_at n r₀.slots
 
-abbrev invariant-loop : tie.invariant-loop
-invariant-loop k tx r₀ n slot i₀ r i = Shifting r₀ n k r i
+abbrev invariant-loop-i : tie.invariant-loop-i
+invariant-loop-i k tx r₀ n slot i₀ r i = Shifting r₀ n k r i
 
-abbrev decreases-loop : tie.decreases-loop
-decreases-loop k tx r₀ n slot i₀ r i = i
+abbrev decreases-loop-i : tie.decreases-loop-i
+decreases-loop-i k tx r₀ n slot i₀ r i = i
 
-mul-slot : tie.Need-overflow-mul-slot invariant-loop decreases-loop
-mul-slot c = search rules
+offset_bounds-r-n : tie.Need-offset_bounds-r-n invariant-loop-i decreases-loop-i
+offset_bounds-r-n c = search rules
 
-element-copy-out-slot : tie.Need-element-copy-out-slot invariant-loop decreases-loop
-element-copy-out-slot c = search rules
+bounds-r-n : tie.Need-bounds-r-n invariant-loop-i decreases-loop-i
+bounds-r-n c = search rules
 
-loop-holds : tie.Need-loop-init invariant-loop decreases-loop
-loop-holds c = search rules
+loop-i-init : tie.Need-loop-i-init invariant-loop-i decreases-loop-i
+loop-i-init c = search rules
 
-sub-j : tie.Need-overflow-sub-j invariant-loop decreases-loop
-sub-j c = search rules
+overflow_sub-j : tie.Need-overflow_sub-j invariant-loop-i decreases-loop-i
+overflow_sub-j c = search rules
 
-mul-r : tie.Need-overflow-mul-r invariant-loop decreases-loop
-mul-r c = search rules
+offset_bounds-r-j : tie.Need-offset_bounds-r-j invariant-loop-i decreases-loop-i
+offset_bounds-r-j c = search rules
 
-element-copy-out-r : tie.Need-element-copy-out-r invariant-loop decreases-loop
-element-copy-out-r c = search rules
+bounds-r-j : tie.Need-bounds-r-j invariant-loop-i decreases-loop-i
+bounds-r-j c = search rules
 
-mul-r-2 : tie.Need-overflow-mul-r-2 invariant-loop decreases-loop
-mul-r-2 c = search rules
+offset_bounds-r-i : tie.Need-offset_bounds-r-i invariant-loop-i decreases-loop-i
+offset_bounds-r-i c = search rules
 
-element-write-r : tie.Need-element-write-r invariant-loop decreases-loop
-element-write-r c = search rules
+bounds-r-i : tie.Need-bounds-r-i invariant-loop-i decreases-loop-i
+bounds-r-i c = search rules
 
-mul-r-3 : tie.Need-overflow-mul-r-3 invariant-loop decreases-loop
-mul-r-3 c = search rules
+offset_bounds-r-j-in-loop-i : tie.Need-offset_bounds-r-j-in-loop-i invariant-loop-i decreases-loop-i
+offset_bounds-r-j-in-loop-i c = search rules
 
-element-copy-out-r-2 : tie.Need-element-copy-out-r-2 invariant-loop decreases-loop
-element-copy-out-r-2 c = search rules
+bounds-r-j-in-loop-i : tie.Need-bounds-r-j-in-loop-i invariant-loop-i decreases-loop-i
+bounds-r-j-in-loop-i c = search rules
 
-mul-r-4 : tie.Need-overflow-mul-r-4 invariant-loop decreases-loop
-mul-r-4 c = search rules
+offset_bounds-r-i-in-loop-i : tie.Need-offset_bounds-r-i-in-loop-i invariant-loop-i decreases-loop-i
+offset_bounds-r-i-in-loop-i c = search rules
 
-element-write-r-2 : tie.Need-element-write-r-2 invariant-loop decreases-loop
-element-write-r-2 c = search rules
+bounds-r-i-in-loop-i : tie.Need-bounds-r-i-in-loop-i invariant-loop-i decreases-loop-i
+bounds-r-i-in-loop-i c = search rules
 
-loop-less : tie.Need-loop-smaller invariant-loop decreases-loop
-loop-less c = search rules
+loop-i-smaller : tie.Need-loop-i-smaller invariant-loop-i decreases-loop-i
+loop-i-smaller c = search rules
 
-loop-again : tie.Need-loop-preserved invariant-loop decreases-loop
-loop-again c =
-    let l = c.before.before.before.loop in
+loop-i-preserved : tie.Need-loop-i-preserved invariant-loop-i decreases-loop-i
+loop-i-preserved c =
+    let l = c.loop-i in
     record {
       low = omega arith;
       high = omega arith;
@@ -79,63 +79,62 @@ loop-again c =
       slots = hole_down l.r.slots l.i _ (omega arith) (omega arith) ∙ l.invariant.slots;
     }
 
-mul-r-5 : tie.Need-overflow-mul-r-5 invariant-loop decreases-loop
-mul-r-5 c = search rules
+offset_bounds-r-k : tie.Need-offset_bounds-r-k invariant-loop-i decreases-loop-i
+offset_bounds-r-k c = search rules
 
-element-write-r-3 : tie.Need-element-write-r-3 invariant-loop decreases-loop
-element-write-r-3 c = search rules
+bounds-r-k : tie.Need-bounds-r-k invariant-loop-i decreases-loop-i
+bounds-r-k c = search rules
 
-mul-r-6 : tie.Need-overflow-mul-r-6 invariant-loop decreases-loop
-mul-r-6 c = search rules
+offset_bounds-r-k-2 : tie.Need-offset_bounds-r-k-2 invariant-loop-i decreases-loop-i
+offset_bounds-r-k-2 c = search rules
 
-element-write-r-4 : tie.Need-element-write-r-4 invariant-loop decreases-loop
-element-write-r-4 c = search rules
+bounds-r-k-2 : tie.Need-bounds-r-k-2 invariant-loop-i decreases-loop-i
+bounds-r-k-2 c = search rules
 
-add_r : tie.Need-overflow-add-r invariant-loop decreases-loop
-add_r c = search rules
+overflow_add-r : tie.Need-overflow_add-r invariant-loop-i decreases-loop-i
+overflow_add-r c = search rules
 
-returns : tie.Need-returns invariant-loop decreases-loop
+returns : tie.Need-returns invariant-loop-i decreases-loop-i
 returns c =
-    let s = c.before.before.before in
-    let l = c.before.loop in
-    let h : l.i ≡ s.args.k = omega arith in
+    let l = c.loop-i in
+    let h : l.i ≡ c.args.k = omega arith in
     let q = rw h at l.invariant.slots in
     record {
       sound = record {
         room = omega arith;
         key_length = search rules;
         slot_length = search rules;
-        within = every_moved (λ x. x < 48) 0 s.args.self.slots l.r.slots s.args.k s.args.self.len (omega arith) (omega arith) q s.requires.0.within;
-        distinct = distinct_moved s.args.self.slots l.r.slots s.args.k s.args.self.len (omega arith) (omega arith) q s.requires.0.distinct;
+        within = every_moved (λ x. x < 48) 0 c.args.self.slots l.r.slots c.args.k c.args.self.len (omega arith) (omega arith) q c.requires.0.within;
+        distinct = distinct_moved c.args.self.slots l.r.slots c.args.k c.args.self.len (omega arith) (omega arith) q c.requires.0.distinct;
       };
       len = refl;
-      keys = inserted s.args.self.keys l.r.keys s.args.self.len s.args.k (number_of s.args.tx) (omega arith) (omega arith) (omega arith) (rw h at l.invariant.keys);
-      slots = inserted s.args.self.slots l.r.slots s.args.self.len s.args.k _ (omega arith) (omega arith) (omega arith) q;
+      keys = inserted c.args.self.keys l.r.keys c.args.self.len c.args.k (number_of c.args.tx) (omega arith) (omega arith) (omega arith) (rw h at l.invariant.keys);
+      slots = inserted c.args.self.slots l.r.slots c.args.self.len c.args.k _ (omega arith) (omega arith) (omega arith) q;
     }
 
-pub insert-at-spec : {M : Type 1} → statement M
-insert-at-spec =
+pub insert_at_spec : {M : Type 1} → statement M
+insert_at_spec =
     tie.close
     (tie.spec
-    invariant-loop
-    decreases-loop
-    mul-slot
-    element-copy-out-slot
-    loop-holds
-    sub-j
-    mul-r
-    element-copy-out-r
-    mul-r-2
-    element-write-r
-    mul-r-3
-    element-copy-out-r-2
-    mul-r-4
-    element-write-r-2
-    loop-less
-    loop-again
-    mul-r-5
-    element-write-r-3
-    mul-r-6
-    element-write-r-4
-    add_r
+    invariant-loop-i
+    decreases-loop-i
+    offset_bounds-r-n
+    bounds-r-n
+    loop-i-init
+    overflow_sub-j
+    offset_bounds-r-j
+    bounds-r-j
+    offset_bounds-r-i
+    bounds-r-i
+    offset_bounds-r-j-in-loop-i
+    bounds-r-j-in-loop-i
+    offset_bounds-r-i-in-loop-i
+    bounds-r-i-in-loop-i
+    loop-i-smaller
+    loop-i-preserved
+    offset_bounds-r-k
+    bounds-r-k
+    offset_bounds-r-k-2
+    bounds-r-k-2
+    overflow_add-r
     returns)

@@ -22,57 +22,57 @@ record Shifting (r₀ : Roster) (m k : ℕ) (r : Roster) (i : ℕ) : Type 0 wher
   keys : remove_at i r.keys ≡ remove_at k r₀.keys
   slots : remove_at i r.slots ≡ remove_at k r₀.slots
 
-abbrev invariant-loop : tie.invariant-loop
-invariant-loop k r₀ m slot i₀ r i = Shifting r₀ m k r i
+abbrev invariant-loop-i : tie.invariant-loop-i
+invariant-loop-i k r₀ m slot i₀ r i = Shifting r₀ m k r i
 
-abbrev decreases-loop : tie.decreases-loop
-decreases-loop k r₀ m slot i₀ r i = m - i
+abbrev decreases-loop-i : tie.decreases-loop-i
+decreases-loop-i k r₀ m slot i₀ r i = m - i
 
-sub-m : tie.Need-overflow-sub-m invariant-loop decreases-loop
-sub-m c = search rules
+overflow_sub-m : tie.Need-overflow_sub-m invariant-loop-i decreases-loop-i
+overflow_sub-m c = search rules
 
-mul-slot : tie.Need-overflow-mul-slot invariant-loop decreases-loop
-mul-slot c = search rules
+offset_bounds-r-k : tie.Need-offset_bounds-r-k invariant-loop-i decreases-loop-i
+offset_bounds-r-k c = search rules
 
-element-copy-out-slot : tie.Need-element-copy-out-slot invariant-loop decreases-loop
-element-copy-out-slot c = search rules
+bounds-r-k : tie.Need-bounds-r-k invariant-loop-i decreases-loop-i
+bounds-r-k c = search rules
 
-loop-holds : tie.Need-loop-init invariant-loop decreases-loop
-loop-holds c = search rules
+loop-i-init : tie.Need-loop-i-init invariant-loop-i decreases-loop-i
+loop-i-init c = search rules
 
-add-j : tie.Need-overflow-add-j invariant-loop decreases-loop
-add-j c = search rules
+overflow_add-j : tie.Need-overflow_add-j invariant-loop-i decreases-loop-i
+overflow_add-j c = search rules
 
-mul-r : tie.Need-overflow-mul-r invariant-loop decreases-loop
-mul-r c = search rules
+offset_bounds-r-j : tie.Need-offset_bounds-r-j invariant-loop-i decreases-loop-i
+offset_bounds-r-j c = search rules
 
-element-copy-out-r : tie.Need-element-copy-out-r invariant-loop decreases-loop
-element-copy-out-r c = search rules
+bounds-r-j : tie.Need-bounds-r-j invariant-loop-i decreases-loop-i
+bounds-r-j c = search rules
 
-mul-r-2 : tie.Need-overflow-mul-r-2 invariant-loop decreases-loop
-mul-r-2 c = search rules
+offset_bounds-r-i : tie.Need-offset_bounds-r-i invariant-loop-i decreases-loop-i
+offset_bounds-r-i c = search rules
 
-element-write-r : tie.Need-element-write-r invariant-loop decreases-loop
-element-write-r c = search rules
+bounds-r-i : tie.Need-bounds-r-i invariant-loop-i decreases-loop-i
+bounds-r-i c = search rules
 
-mul-r-3 : tie.Need-overflow-mul-r-3 invariant-loop decreases-loop
-mul-r-3 c = search rules
+offset_bounds-r-j-in-loop-i : tie.Need-offset_bounds-r-j-in-loop-i invariant-loop-i decreases-loop-i
+offset_bounds-r-j-in-loop-i c = search rules
 
-element-copy-out-r-2 : tie.Need-element-copy-out-r-2 invariant-loop decreases-loop
-element-copy-out-r-2 c = search rules
+bounds-r-j-in-loop-i : tie.Need-bounds-r-j-in-loop-i invariant-loop-i decreases-loop-i
+bounds-r-j-in-loop-i c = search rules
 
-mul-r-4 : tie.Need-overflow-mul-r-4 invariant-loop decreases-loop
-mul-r-4 c = search rules
+offset_bounds-r-i-in-loop-i : tie.Need-offset_bounds-r-i-in-loop-i invariant-loop-i decreases-loop-i
+offset_bounds-r-i-in-loop-i c = search rules
 
-element-write-r-2 : tie.Need-element-write-r-2 invariant-loop decreases-loop
-element-write-r-2 c = search rules
+bounds-r-i-in-loop-i : tie.Need-bounds-r-i-in-loop-i invariant-loop-i decreases-loop-i
+bounds-r-i-in-loop-i c = search rules
 
-loop-less : tie.Need-loop-smaller invariant-loop decreases-loop
-loop-less c = search rules
+loop-i-smaller : tie.Need-loop-i-smaller invariant-loop-i decreases-loop-i
+loop-i-smaller c = search rules
 
-loop-again : tie.Need-loop-preserved invariant-loop decreases-loop
-loop-again c =
-    let l = c.before.before.before.loop in
+loop-i-preserved : tie.Need-loop-i-preserved invariant-loop-i decreases-loop-i
+loop-i-preserved c =
+    let l = c.loop-i in
     record {
       low = omega arith;
       high = omega arith;
@@ -82,53 +82,52 @@ loop-again c =
       slots = hole_up l.r.slots l.i _ (omega arith) ∙ l.invariant.slots;
     }
 
-mul-r-5 : tie.Need-overflow-mul-r-5 invariant-loop decreases-loop
-mul-r-5 c = search rules
+offset_bounds-r-m : tie.Need-offset_bounds-r-m invariant-loop-i decreases-loop-i
+offset_bounds-r-m c = search rules
 
-element-write-r-3 : tie.Need-element-write-r-3 invariant-loop decreases-loop
-element-write-r-3 c = search rules
+bounds-r-m : tie.Need-bounds-r-m invariant-loop-i decreases-loop-i
+bounds-r-m c = search rules
 
-returns : tie.Need-returns invariant-loop decreases-loop
+returns : tie.Need-returns invariant-loop-i decreases-loop-i
 returns c =
-    let s = c.before.before.before in
-    let l = c.before.loop in
-    let m = s.args.self.len - 1 in
-    let h : l.i ≡ s.args.self.len - 1 = omega arith in
+    let l = c.loop-i in
+    let m = c.args.self.len - 1 in
+    let h : l.i ≡ c.args.self.len - 1 = omega arith in
     let q = rw h at l.invariant.slots in
     record {
       sound = record {
         room = omega arith;
         key_length = search rules;
         slot_length = search rules;
-        within = every_moved (λ x. x < 48) 0 s.args.self.slots l.r.slots m s.args.k (omega arith) (omega arith) q s.requires.0.within;
-        distinct = distinct_moved s.args.self.slots l.r.slots m s.args.k (omega arith) (omega arith) q s.requires.0.distinct;
+        within = every_moved (λ x. x < 48) 0 c.args.self.slots l.r.slots m c.args.k (omega arith) (omega arith) q c.requires.0.within;
+        distinct = distinct_moved c.args.self.slots l.r.slots m c.args.k (omega arith) (omega arith) q c.requires.0.distinct;
       };
       len = refl;
-      keys = removed s.args.self.keys l.r.keys s.args.self.len s.args.k (omega arith) (omega arith) (rw h at l.invariant.keys);
-      slots = rw (take-set-le m l.r.slots m (get_or s.args.self.slots s.args.k 0) (omega arith)) (removed s.args.self.slots l.r.slots s.args.self.len s.args.k (omega arith) (omega arith) q);
+      keys = removed c.args.self.keys l.r.keys c.args.self.len c.args.k (omega arith) (omega arith) (rw h at l.invariant.keys);
+      slots = rw (take-set-le m l.r.slots m (get_or c.args.self.slots c.args.k 0) (omega arith)) (removed c.args.self.slots l.r.slots c.args.self.len c.args.k (omega arith) (omega arith) q);
     }
 
-pub remove-at-spec : {M : Type 1} → statement M
-remove-at-spec =
+pub remove_at_spec : {M : Type 1} → statement M
+remove_at_spec =
     tie.close
     (tie.spec
-    invariant-loop
-    decreases-loop
-    sub-m
-    mul-slot
-    element-copy-out-slot
-    loop-holds
-    add-j
-    mul-r
-    element-copy-out-r
-    mul-r-2
-    element-write-r
-    mul-r-3
-    element-copy-out-r-2
-    mul-r-4
-    element-write-r-2
-    loop-less
-    loop-again
-    mul-r-5
-    element-write-r-3
+    invariant-loop-i
+    decreases-loop-i
+    overflow_sub-m
+    offset_bounds-r-k
+    bounds-r-k
+    loop-i-init
+    overflow_add-j
+    offset_bounds-r-j
+    bounds-r-j
+    offset_bounds-r-i
+    bounds-r-i
+    offset_bounds-r-j-in-loop-i
+    bounds-r-j-in-loop-i
+    offset_bounds-r-i-in-loop-i
+    bounds-r-i-in-loop-i
+    loop-i-smaller
+    loop-i-preserved
+    offset_bounds-r-m
+    bounds-r-m
     returns)

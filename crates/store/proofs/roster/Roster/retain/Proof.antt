@@ -54,80 +54,78 @@ module _ (r₀ : Roster) (n : ℕ) (stay : List Bool) (r : Roster) (w i : ℕ) (
         slots = flag_down stay 0 r.slots w i n h (omega arith) (omega arith) t ∙ v.slots;
       }
 
-abbrev invariant-loop : tie.invariant-loop
-invariant-loop stay r₀ n w₀ i₀ r w i = Keeping r₀ n stay r w i
+abbrev invariant-loop-i : tie.invariant-loop-i
+invariant-loop-i stay r₀ n w₀ i₀ r w i = Keeping r₀ n stay r w i
 
-abbrev decreases-loop : tie.decreases-loop
-decreases-loop stay r₀ n w₀ i₀ r w i = n - i
+abbrev decreases-loop-i : tie.decreases-loop-i
+decreases-loop-i stay r₀ n w₀ i₀ r w i = n - i
 
-loop-holds : tie.Need-loop-init invariant-loop decreases-loop
-loop-holds c = search rules
+loop-i-init : tie.Need-loop-i-init invariant-loop-i decreases-loop-i
+loop-i-init c = search rules
 
-array-read-if1 : tie.Need-array-read-if1 invariant-loop decreases-loop
-array-read-if1 c = search rules
+bounds-stay-i : tie.Need-bounds-stay-i invariant-loop-i decreases-loop-i
+bounds-stay-i c = search rules
 
-mul-slot : tie.Need-overflow-mul-slot invariant-loop decreases-loop
-mul-slot c = search rules
+offset_bounds-r-i : tie.Need-offset_bounds-r-i invariant-loop-i decreases-loop-i
+offset_bounds-r-i c = search rules
 
-element-copy-out-slot : tie.Need-element-copy-out-slot invariant-loop decreases-loop
-element-copy-out-slot c = search rules
+bounds-r-i : tie.Need-bounds-r-i invariant-loop-i decreases-loop-i
+bounds-r-i c = search rules
 
-mul-r : tie.Need-overflow-mul-r invariant-loop decreases-loop
-mul-r c = search rules
+offset_bounds-r-i-then-stay-i : tie.Need-offset_bounds-r-i-then-stay-i invariant-loop-i decreases-loop-i
+offset_bounds-r-i-then-stay-i c = search rules
 
-element-copy-out-r : tie.Need-element-copy-out-r invariant-loop decreases-loop
-element-copy-out-r c = search rules
+bounds-r-i-then-stay-i : tie.Need-bounds-r-i-then-stay-i invariant-loop-i decreases-loop-i
+bounds-r-i-then-stay-i c = search rules
 
-mul-r-2 : tie.Need-overflow-mul-r-2 invariant-loop decreases-loop
-mul-r-2 c = search rules
+offset_bounds-r-w : tie.Need-offset_bounds-r-w invariant-loop-i decreases-loop-i
+offset_bounds-r-w c = search rules
 
-element-write-r : tie.Need-element-write-r invariant-loop decreases-loop
-element-write-r c = search rules
+bounds-r-w : tie.Need-bounds-r-w invariant-loop-i decreases-loop-i
+bounds-r-w c = search rules
 
-mul-r-3 : tie.Need-overflow-mul-r-3 invariant-loop decreases-loop
-mul-r-3 c = search rules
+offset_bounds-r-w-then-stay-i : tie.Need-offset_bounds-r-w-then-stay-i invariant-loop-i decreases-loop-i
+offset_bounds-r-w-then-stay-i c = search rules
 
-element-copy-out-r-2 : tie.Need-element-copy-out-r-2 invariant-loop decreases-loop
-element-copy-out-r-2 c = search rules
+bounds-r-w-then-stay-i : tie.Need-bounds-r-w-then-stay-i invariant-loop-i decreases-loop-i
+bounds-r-w-then-stay-i c = search rules
 
-mul-r-4 : tie.Need-overflow-mul-r-4 invariant-loop decreases-loop
-mul-r-4 c = search rules
+offset_bounds-r-i-then-stay-i-2 : tie.Need-offset_bounds-r-i-then-stay-i-2 invariant-loop-i decreases-loop-i
+offset_bounds-r-i-then-stay-i-2 c = search rules
 
-element-write-r-2 : tie.Need-element-write-r-2 invariant-loop decreases-loop
-element-write-r-2 c = search rules
+bounds-r-i-then-stay-i-2 : tie.Need-bounds-r-i-then-stay-i-2 invariant-loop-i decreases-loop-i
+bounds-r-i-then-stay-i-2 c = search rules
 
-mul-r-5 : tie.Need-overflow-mul-r-5 invariant-loop decreases-loop
-mul-r-5 c = search rules
+offset_bounds-r-w-then-stay-i-2 : tie.Need-offset_bounds-r-w-then-stay-i-2 invariant-loop-i decreases-loop-i
+offset_bounds-r-w-then-stay-i-2 c = search rules
 
-element-write-r-3 : tie.Need-element-write-r-3 invariant-loop decreases-loop
-element-write-r-3 c = search rules
+bounds-r-w-then-stay-i-2 : tie.Need-bounds-r-w-then-stay-i-2 invariant-loop-i decreases-loop-i
+bounds-r-w-then-stay-i-2 c = search rules
 
-add-w : tie.Need-overflow-add-w invariant-loop decreases-loop
-add-w c = search rules
+overflow_add-w : tie.Need-overflow_add-w invariant-loop-i decreases-loop-i
+overflow_add-w c = search rules
 
-add-i : tie.Need-overflow-add-i invariant-loop decreases-loop
-add-i c = search rules
+overflow_add-i : tie.Need-overflow_add-i invariant-loop-i decreases-loop-i
+overflow_add-i c = search rules
 
-loop-less : tie.Need-loop-smaller invariant-loop decreases-loop
-loop-less c = search rules
+loop-i-smaller : tie.Need-loop-i-smaller invariant-loop-i decreases-loop-i
+loop-i-smaller c = search rules
 
-loop-again : tie.Need-loop-preserved invariant-loop decreases-loop
-loop-again c =
-    let s = c.before.before.before in
-    let l = c.before.before.loop in
-    let f : length s.args.t2 ≡ 48 = search rules in
-    let h : l.i < s.args.self.len = omega arith in
-    let m : s.args.self.len ≤ 48 = omega arith in
+loop-i-preserved : tie.Need-loop-i-preserved invariant-loop-i decreases-loop-i
+loop-i-preserved c =
+    let l = c.loop-i in
+    let f : length c.args.stay ≡ 48 = search rules in
+    let h : l.i < c.args.self.len = omega arith in
+    let m : c.args.self.len ≤ 48 = omega arith in
     ⊎_elim
-    (λ v. rw (v.4, v.5) (turn_up s.args.self s.args.self.len s.args.t2 l.r l.w l.i l.invariant h m f v.0.taken))
-    (λ v. rw (v.1, v.2) (turn_down s.args.self s.args.self.len s.args.t2 l.r l.w l.i l.invariant h m f v.0.left))
-    c.if1.branch
+    (λ v. rw (v.r-is, v.w-is) (turn_up c.args.self c.args.self.len c.args.stay l.r l.w l.i l.invariant h m f v.if-stay-i.true))
+    (λ v. rw (v.r-is, v.w-is) (turn_down c.args.self c.args.self.len c.args.stay l.r l.w l.i l.invariant h m f v.if-stay-i.false))
+    c.if-stay-i.branch-raw
 
-returns : tie.Need-returns invariant-loop decreases-loop
+returns : tie.Need-returns invariant-loop-i decreases-loop-i
 returns c =
-    let s = c.before.before in
-    let l = c.before.loop in
-    let f : length s.args.t2 ≡ 48 = search rules in
+    let l = c.loop-i in
+    let f : length c.args.stay ≡ 48 = search rules in
     record {
       sound = record {
         room = omega arith;
@@ -136,32 +134,32 @@ returns c =
         within = l.invariant.within;
         distinct = l.invariant.distinct;
       };
-      keys = sym (flags_end s.args.t2 l.r.keys l.w l.i s.args.self.len (omega arith) (omega arith)) ∙ l.invariant.keys;
-      slots = sym (flags_end s.args.t2 l.r.slots l.w l.i s.args.self.len (omega arith) (omega arith)) ∙ l.invariant.slots;
+      keys = sym (flags_end c.args.stay l.r.keys l.w l.i c.args.self.len (omega arith) (omega arith)) ∙ l.invariant.keys;
+      slots = sym (flags_end c.args.stay l.r.slots l.w l.i c.args.self.len (omega arith) (omega arith)) ∙ l.invariant.slots;
     }
 
-pub retain-spec : {M : Type 1} → statement M
-retain-spec =
+pub retain_spec : {M : Type 1} → statement M
+retain_spec =
     tie.close
     (tie.spec
-    invariant-loop
-    decreases-loop
-    loop-holds
-    array-read-if1
-    mul-slot
-    element-copy-out-slot
-    mul-r
-    element-copy-out-r
-    mul-r-2
-    element-write-r
-    mul-r-3
-    element-copy-out-r-2
-    mul-r-4
-    element-write-r-2
-    mul-r-5
-    element-write-r-3
-    add-w
-    add-i
-    loop-less
-    loop-again
+    invariant-loop-i
+    decreases-loop-i
+    loop-i-init
+    bounds-stay-i
+    offset_bounds-r-i
+    bounds-r-i
+    offset_bounds-r-i-then-stay-i
+    bounds-r-i-then-stay-i
+    offset_bounds-r-w
+    bounds-r-w
+    offset_bounds-r-w-then-stay-i
+    bounds-r-w-then-stay-i
+    offset_bounds-r-i-then-stay-i-2
+    bounds-r-i-then-stay-i-2
+    offset_bounds-r-w-then-stay-i-2
+    bounds-r-w-then-stay-i-2
+    overflow_add-w
+    overflow_add-i
+    loop-i-smaller
+    loop-i-preserved
     returns)

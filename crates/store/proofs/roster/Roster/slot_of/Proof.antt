@@ -8,41 +8,38 @@ use borrow.Author.Rules.{rules}
 use Rattle.store.proofs.roster.Roster.slot_of.Statement.{statement}
 use Rattle.store.proofs.roster.Roster.slot_of.Tie as tie
 
-below : (c : tie.After-k) → c.k.given.0.0 < c.before.before.before.args.t1.len
+below : (c : tie.In-At) → c.in-At.k < c.args.self.len
 below c =
-    let s = c.before.before.before in
-    found_below s.args.t1 _ c.k.given.0.0 s.requires (sym c.before.before.find.ensures ∙ c.k.given.1)
+    found_below c.args.self _ c.in-At.k c.requires (sym c.find.ensures ∙ c.in-At.is)
 
 find-requires : tie.Need-find-requires
 find-requires c κs = search rules
 
-enum-known-k : tie.Need-enum-known-k
-enum-known-k c = search rules
+enum_known-k : tie.Need-enum_known-k
+enum_known-k c = search rules
 
-enum_told : tie.Need-enum-told
-enum_told c = search rules
+enum_told-1 : tie.Need-enum_told-1
+enum_told-1 c = search rules
+
+returns-in_default : tie.Need-returns-in_default
+returns-in_default c = sym c.find.ensures ∙ c.in_default.is
+
+offset_bounds-self-k : tie.Need-offset_bounds-self-k
+offset_bounds-self-k c = omega (arith, below c, c.requires.room)
+
+bounds-self-k : tie.Need-bounds-self-k
+bounds-self-k c = omega (arith, below c, c.requires.room)
 
 returns : tie.Need-returns
-returns c = sym c.before.before.find.ensures ∙ c.enum_told.given.1
-
-mul-t7 : tie.Need-overflow-mul-t7
-mul-t7 c = omega (arith, below c.before, c.before.before.before.before.requires.room)
-
-element-copy-out-t10 : tie.Need-element-copy-out-t10
-element-copy-out-t10 c = omega (arith, below c.before, c.before.before.before.before.requires.room)
-
-returns-2 : tie.Need-returns-2
-returns-2 c =
-    let k = c.before.before in
-    let s = k.before.before.before in
+returns c =
     record {
-      at = k.k.given.0.0;
-      found = sym k.before.before.find.ensures ∙ k.k.given.1;
+      at = c.in-At.k;
+      found = sym c.find.ensures ∙ c.in-At.is;
       slot = refl;
-      small = slot-within s.args.t1 k.k.given.0.0 s.requires (below k);
+      small = slot-within c.args.self c.in-At.k c.requires (below c.before);
     }
 
-pub slot-of-spec : {M : Type 1} → statement M
-slot-of-spec =
+pub slot_of_spec : {M : Type 1} → statement M
+slot_of_spec =
     tie.close
-    (tie.spec find-requires enum-known-k enum_told returns mul-t7 element-copy-out-t10 returns-2)
+    (tie.spec find-requires enum_known-k enum_told-1 returns-in_default offset_bounds-self-k bounds-self-k returns)
