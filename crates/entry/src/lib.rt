@@ -1,4 +1,6 @@
 // An entry: one transaction that is owed an ending (the Rust's `Owed`), and what each kind of call asks and changes of it.
+#![tactic(auto)]
+
 ghost use Rattle.std.specs.Prelude.{◌≡◌, ◌&&◌, ◌||◌, not, true, ◌≤◌, eqb, ltb, take};
 ghost use Rattle.lists.specs.Lists.{all, has, include, self as itself, filled, zip_by};
 ghost use Rattle.lists.specs.Arrays.{rank};

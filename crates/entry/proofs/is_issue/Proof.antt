@@ -5,14 +5,14 @@ use borrow.Author.Rules.{rules}
 use Rattle.entry.proofs.is_issue.Statement.{statement}
 use Rattle.entry.proofs.is_issue.Tie as tie
 
-record-key-requires : tie.Need-record-key-requires
-record-key-requires c κs = search rules
+record_key-key-requires : tie.Need-record_key-key-requires
+record_key-key-requires c κs = search rules
 
-returns : tie.Need-returns
-returns c = rw (eq-eqb _ _ c.before.before.if1.true, c.before.before.before.before.before.record-key.ensures)
+returns-then-from-local : tie.Need-returns-then-from-local
+returns-then-from-local c = rw (eq-eqb _ _ c.if-from-local.true, c.record_key-key.ensures)
 
-returns-2 : tie.Need-returns-2
-returns-2 c = rw (ne_eqb _ _ c.if1.false)
+returns-else-from-local : tie.Need-returns-else-from-local
+returns-else-from-local c = rw (ne_eqb _ _ c.if-from-local.false)
 
-pub is-issue-spec : {M : Type 1} → statement M
-is-issue-spec = tie.close (tie.spec record-key-requires returns returns-2)
+pub is_issue_spec : {M : Type 1} → statement M
+is_issue_spec = tie.close (tie.spec record_key-key-requires returns-then-from-local returns-else-from-local)

@@ -5,11 +5,11 @@ use borrow.Author.Tests.{eq-eqb, ne_eqb}
 use Rattle.entry.proofs.is_owed_edge.Statement.{statement}
 use Rattle.entry.proofs.is_owed_edge.Tie as tie
 
-returns : tie.Need-returns
-returns c = rw (eq-eqb _ _ c.if1.true)
+returns-then-from-local : tie.Need-returns-then-from-local
+returns-then-from-local c = rw (eq-eqb _ _ c.if-from-local.true)
 
-returns-2 : tie.Need-returns-2
-returns-2 c = rw (ne_eqb _ _ c.if1.false)
+returns-else-from-local : tie.Need-returns-else-from-local
+returns-else-from-local c = rw (ne_eqb _ _ c.if-from-local.false)
 
-pub is-owed-edge-spec : {M : Type 1} → statement M
-is-owed-edge-spec = tie.close (tie.spec returns returns-2)
+pub is_owed_edge_spec : {M : Type 1} → statement M
+is_owed_edge_spec = tie.close (tie.spec returns-then-from-local returns-else-from-local)

@@ -7,13 +7,13 @@ use Rattle.entry.proofs.Absent.{same_shard, other_shard}
 use Rattle.entry.proofs.is_same.Statement.{statement}
 use Rattle.entry.proofs.is_same.Tie as tie
 
-returns : tie.Need-returns
-returns c = same_shard _ _ _ _ c.if1.true
+returns-then-s-shard : tie.Need-returns-then-s-shard
+returns-then-s-shard c = same_shard _ _ _ _ c.if-s-shard.true
 
-returns-2 : tie.Need-returns-2
-returns-2 c =
-    let s = c.before.before.before.args in
-    ne_eqb _ _ c.if1.false ∙ sym (other_shard s.s.0 s.k s.shard.0 s.key (omega arith) (omega arith) c.if1.false)
+returns-else-s-shard : tie.Need-returns-else-s-shard
+returns-else-s-shard c =
+    let s = c.args in
+    ne_eqb _ _ c.if-s-shard.false ∙ sym (other_shard s.s.0 s.k s.shard.0 s.key (omega arith) (omega arith) c.if-s-shard.false)
 
-pub is-same-spec : {M : Type 1} → statement M
-is-same-spec = tie.close (tie.spec returns returns-2)
+pub is_same_spec : {M : Type 1} → statement M
+is_same_spec = tie.close (tie.spec returns-then-s-shard returns-else-s-shard)

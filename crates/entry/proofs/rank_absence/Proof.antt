@@ -13,77 +13,74 @@ use borrow.Author.Rules.{rules}
 use Rattle.entry.proofs.rank_absence.Statement.{statement}
 use Rattle.entry.proofs.rank_absence.Tie as tie
 
-abbrev invariant-loop : tie.invariant-loop
-invariant-loop n shard key shards keys i₀ i = (i ≤ n) × (i + rank (below (absence shard.0 key)) (drop i (zip_by absence (take n shards) (take n keys))) ≡ rank (below (absence shard.0 key)) (zip_by absence (take n shards) (take n keys)))
+abbrev invariant-loop-i : tie.invariant-loop-i
+invariant-loop-i n shard key shards keys i₀ i = (i ≤ n) × (i + rank (below (absence shard.0 key)) (drop i (zip_by absence (take n shards) (take n keys))) ≡ rank (below (absence shard.0 key)) (zip_by absence (take n shards) (take n keys)))
 
-abbrev decreases-loop : tie.decreases-loop
-decreases-loop n shard key shards keys i₀ i = n - i
+abbrev decreases-loop-i : tie.decreases-loop-i
+decreases-loop-i n shard key shards keys i₀ i = n - i
 
-loop-holds : tie.Need-loop-init invariant-loop decreases-loop
-loop-holds c = search rules
+loop-i-init : tie.Need-loop-i-init invariant-loop-i decreases-loop-i
+loop-i-init c = search rules
 
-mul-t10 : tie.Need-overflow-mul-t10 invariant-loop decreases-loop
-mul-t10 c = search rules
+offset_bounds-shards-i : tie.Need-offset_bounds-shards-i invariant-loop-i decreases-loop-i
+offset_bounds-shards-i c = search rules
 
-array-read-t13 : tie.Need-array-read-t13 invariant-loop decreases-loop
-array-read-t13 c = search rules
+bounds-shards-i : tie.Need-bounds-shards-i invariant-loop-i decreases-loop-i
+bounds-shards-i c = search rules
 
-mul-is-lower : tie.Need-overflow-mul-is-lower invariant-loop decreases-loop
-mul-is-lower c = search rules
+offset_bounds-keys-i : tie.Need-offset_bounds-keys-i invariant-loop-i decreases-loop-i
+offset_bounds-keys-i c = search rules
 
-array-read-is-lower : tie.Need-array-read-is-lower invariant-loop decreases-loop
-array-read-is-lower c = search rules
+bounds-keys-i : tie.Need-bounds-keys-i invariant-loop-i decreases-loop-i
+bounds-keys-i c = search rules
 
-is-lower-requires : tie.Need-is-lower-requires invariant-loop decreases-loop
-is-lower-requires c κs = search rules
+is_lower-requires : tie.Need-is_lower-requires invariant-loop-i decreases-loop-i
+is_lower-requires c κs = search rules
 
-returns : tie.Need-returns invariant-loop decreases-loop
+returns-then-not-is_lower : tie.Need-returns-then-not-is_lower invariant-loop-i decreases-loop-i
+returns-then-not-is_lower c =
+    let l = c.loop-i in
+    let h : length c.args.shards ≡ 8 = search rules in
+    let k : length c.args.keys ≡ 8 = search rules in
+    let e = pairs-cons absence c.args.shards c.args.keys c.args.n (omega arith) (omega arith) 0 0 l.i (omega arith) in
+    sym (rank_met (below (absence c.args.shard.0 c.args.key)) _ l.i (zip_by absence (take c.args.n c.args.shards) (take c.args.n c.args.keys)) e (sym c.is_lower.ensures ∙ not-true _ c.if-not-is_lower.true-raw)) ∙ l.invariant.1
+
+overflow_add-i : tie.Need-overflow_add-i invariant-loop-i decreases-loop-i
+overflow_add-i c = search rules
+
+loop-i-smaller : tie.Need-loop-i-smaller invariant-loop-i decreases-loop-i
+loop-i-smaller c = search rules
+
+loop-i-preserved : tie.Need-loop-i-preserved invariant-loop-i decreases-loop-i
+loop-i-preserved c =
+    let l = c.loop-i in
+    let h : length c.args.shards ≡ 8 = search rules in
+    let k : length c.args.keys ≡ 8 = search rules in
+    let e = pairs-cons absence c.args.shards c.args.keys c.args.n (omega arith) (omega arith) 0 0 l.i (omega arith) in
+    (search rules, rank-passed (below (absence c.args.shard.0 c.args.key)) _ l.i (zip_by absence (take c.args.n c.args.shards) (take c.args.n c.args.keys)) e (sym c.is_lower.ensures ∙ not-false _ c.if-not-is_lower.false-raw) ∙ l.invariant.1)
+
+returns : tie.Need-returns invariant-loop-i decreases-loop-i
 returns c =
-    let s = c.before.before.before.before in
-    let l = c.before.before.before.loop in
-    let h : length s.args.t1 ≡ 8 = search rules in
-    let k : length s.args.t2 ≡ 8 = search rules in
-    let e = pairs-cons absence s.args.t1 s.args.t2 s.args.n (omega arith) (omega arith) 0 0 l.i (omega arith) in
-    sym (rank_met (below (absence s.args.shard.0 s.args.key)) _ l.i (zip_by absence (take s.args.n s.args.t1) (take s.args.n s.args.t2)) e (sym c.before.is-lower.ensures ∙ not-true _ c.if1.true)) ∙ l.invariant.1
+    let l = c.loop-i in
+    let h : length c.args.shards ≡ 8 = search rules in
+    let k : length c.args.keys ≡ 8 = search rules in
+    let e = pairs_end absence c.args.shards c.args.keys c.args.n (omega arith) (omega arith) l.i (omega arith) in
+    sym (rank-over (below (absence c.args.shard.0 c.args.key)) l.i (zip_by absence (take c.args.n c.args.shards) (take c.args.n c.args.keys)) e) ∙ l.invariant.1
 
-add-i : tie.Need-overflow-add-i invariant-loop decreases-loop
-add-i c = search rules
-
-loop-less : tie.Need-loop-smaller invariant-loop decreases-loop
-loop-less c = search rules
-
-loop-again : tie.Need-loop-preserved invariant-loop decreases-loop
-loop-again c =
-    let s = c.before.before.before.before in
-    let l = c.before.before.before.loop in
-    let h : length s.args.t1 ≡ 8 = search rules in
-    let k : length s.args.t2 ≡ 8 = search rules in
-    let e = pairs-cons absence s.args.t1 s.args.t2 s.args.n (omega arith) (omega arith) 0 0 l.i (omega arith) in
-    (search rules, rank-passed (below (absence s.args.shard.0 s.args.key)) _ l.i (zip_by absence (take s.args.n s.args.t1) (take s.args.n s.args.t2)) e (sym c.before.is-lower.ensures ∙ not-false _ c.if1.false) ∙ l.invariant.1)
-
-returns-2 : tie.Need-returns-2 invariant-loop decreases-loop
-returns-2 c =
-    let s = c.before.before in
-    let l = c.before.loop in
-    let h : length s.args.t1 ≡ 8 = search rules in
-    let k : length s.args.t2 ≡ 8 = search rules in
-    let e = pairs_end absence s.args.t1 s.args.t2 s.args.n (omega arith) (omega arith) l.i (omega arith) in
-    sym (rank-over (below (absence s.args.shard.0 s.args.key)) l.i (zip_by absence (take s.args.n s.args.t1) (take s.args.n s.args.t2)) e) ∙ l.invariant.1
-
-pub rank-absence-spec : {M : Type 1} → statement M
-rank-absence-spec =
+pub rank_absence_spec : {M : Type 1} → statement M
+rank_absence_spec =
     tie.close
     (tie.spec
-    invariant-loop
-    decreases-loop
-    loop-holds
-    mul-t10
-    array-read-t13
-    mul-is-lower
-    array-read-is-lower
-    is-lower-requires
-    returns
-    add-i
-    loop-less
-    loop-again
-    returns-2)
+    invariant-loop-i
+    decreases-loop-i
+    loop-i-init
+    offset_bounds-shards-i
+    bounds-shards-i
+    offset_bounds-keys-i
+    bounds-keys-i
+    is_lower-requires
+    returns-then-not-is_lower
+    overflow_add-i
+    loop-i-smaller
+    loop-i-preserved
+    returns)

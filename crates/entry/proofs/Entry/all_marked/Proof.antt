@@ -12,77 +12,74 @@ use borrow.Author.Rules.{rules}
 use Rattle.entry.proofs.Entry.all_marked.Statement.{statement}
 use Rattle.entry.proofs.Entry.all_marked.Tie as tie
 
-abbrev invariant-loop : tie.invariant-loop
-invariant-loop self local froms ids n i₀ i = (i ≤ n) × (any (waiting (is_marked self) local.0) (drop i (edges_of self)) ≡ any (waiting (is_marked self) local.0) (edges_of self))
+abbrev invariant-loop-i : tie.invariant-loop-i
+invariant-loop-i self local froms ids n i₀ i = (i ≤ n) × (any (waiting (is_marked self) local.0) (drop i (edges_of self)) ≡ any (waiting (is_marked self) local.0) (edges_of self))
 
-abbrev decreases-loop : tie.decreases-loop
-decreases-loop self local froms ids n i₀ i = n - i
+abbrev decreases-loop-i : tie.decreases-loop-i
+decreases-loop-i self local froms ids n i₀ i = n - i
 
-cast-n : tie.Need-overflow-cast-n invariant-loop decreases-loop
-cast-n c = search rules
+overflow_cast-n : tie.Need-overflow_cast-n invariant-loop-i decreases-loop-i
+overflow_cast-n c = search rules
 
-loop-holds : tie.Need-loop-init invariant-loop decreases-loop
-loop-holds c = search rules
+loop-i-init : tie.Need-loop-i-init invariant-loop-i decreases-loop-i
+loop-i-init c = search rules
 
-mul-t9 : tie.Need-overflow-mul-t9 invariant-loop decreases-loop
-mul-t9 c = search rules
+offset_bounds-froms-i : tie.Need-offset_bounds-froms-i invariant-loop-i decreases-loop-i
+offset_bounds-froms-i c = search rules
 
-array-read-t12 : tie.Need-array-read-t12 invariant-loop decreases-loop
-array-read-t12 c = search rules
+bounds-froms-i : tie.Need-bounds-froms-i invariant-loop-i decreases-loop-i
+bounds-froms-i c = search rules
 
-mul-is-open : tie.Need-overflow-mul-is-open invariant-loop decreases-loop
-mul-is-open c = search rules
+offset_bounds-ids-i : tie.Need-offset_bounds-ids-i invariant-loop-i decreases-loop-i
+offset_bounds-ids-i c = search rules
 
-array-read-is-open : tie.Need-array-read-is-open invariant-loop decreases-loop
-array-read-is-open c = search rules
+bounds-ids-i : tie.Need-bounds-ids-i invariant-loop-i decreases-loop-i
+bounds-ids-i c = search rules
 
-is-open-requires : tie.Need-is-open-requires invariant-loop decreases-loop
-is-open-requires c κs = search rules
+is_open-requires : tie.Need-is_open-requires invariant-loop-i decreases-loop-i
+is_open-requires c κs = search rules
 
-returns : tie.Need-returns invariant-loop decreases-loop
+returns-then-is_open : tie.Need-returns-then-is_open invariant-loop-i decreases-loop-i
+unfolding plain_entry
+returns-then-is_open c =
+    let l = c.loop-i in
+    let hit = edges_hit c.args.self c.requires (waiting (is_marked c.args.self) c.args.local.0) l.i (omega arith) (sym c.is_open.ensures ∙ c.if-is_open.true) in
+    sym (marked_all (is_marked c.args.self) c.args.local.0 (plain_entry c.args.self).terms ∙ ap not (sym l.invariant.1 ∙ hit))
+
+overflow_add-i : tie.Need-overflow_add-i invariant-loop-i decreases-loop-i
+overflow_add-i c = search rules
+
+loop-i-smaller : tie.Need-loop-i-smaller invariant-loop-i decreases-loop-i
+loop-i-smaller c = search rules
+
+loop-i-preserved : tie.Need-loop-i-preserved invariant-loop-i decreases-loop-i
+unfolding plain_entry
+loop-i-preserved c =
+    let l = c.loop-i in
+    (search rules, edges_miss c.args.self c.requires (waiting (is_marked c.args.self) c.args.local.0) l.i (omega arith) (sym c.is_open.ensures ∙ c.if-is_open.false) ∙ l.invariant.1)
+
+returns : tie.Need-returns invariant-loop-i decreases-loop-i
 unfolding plain_entry
 returns c =
-    let l = c.before.before.before.loop in
-    let s = c.before.before.before.before.before.before.before in
-    let hit = edges_hit s.args.self s.requires (waiting (is_marked s.args.self) s.args.local.0) l.i (omega arith) (sym c.before.is_open.ensures ∙ c.if1.true) in
-    sym (marked_all (is_marked s.args.self) s.args.local.0 (plain_entry s.args.self).terms ∙ ap not (sym l.invariant.1 ∙ hit))
+    let l = c.loop-i in
+    let over = edges-done c.args.self c.requires (waiting (is_marked c.args.self) c.args.local.0) l.i (omega arith) in
+    sym (marked_all (is_marked c.args.self) c.args.local.0 (plain_entry c.args.self).terms ∙ ap not (sym l.invariant.1 ∙ over))
 
-add-i : tie.Need-overflow-add-i invariant-loop decreases-loop
-add-i c = search rules
-
-loop-less : tie.Need-loop-smaller invariant-loop decreases-loop
-loop-less c = search rules
-
-loop-again : tie.Need-loop-preserved invariant-loop decreases-loop
-unfolding plain_entry
-loop-again c =
-    let l = c.before.before.before.loop in
-    let s = c.before.before.before.before.before.before.before in
-    (search rules, edges_miss s.args.self s.requires (waiting (is_marked s.args.self) s.args.local.0) l.i (omega arith) (sym c.before.is_open.ensures ∙ c.if1.false) ∙ l.invariant.1)
-
-returns-2 : tie.Need-returns-2 invariant-loop decreases-loop
-unfolding plain_entry
-returns-2 c =
-    let s = c.before.before.before.before.before in
-    let l = c.before.loop in
-    let over = edges-done s.args.self s.requires (waiting (is_marked s.args.self) s.args.local.0) l.i (omega arith) in
-    sym (marked_all (is_marked s.args.self) s.args.local.0 (plain_entry s.args.self).terms ∙ ap not (sym l.invariant.1 ∙ over))
-
-pub all-marked-spec : {M : Type 1} → statement M
-all-marked-spec =
+pub all_marked_spec : {M : Type 1} → statement M
+all_marked_spec =
     tie.close
     (tie.spec
-    invariant-loop
-    decreases-loop
-    cast-n
-    loop-holds
-    mul-t9
-    array-read-t12
-    mul-is-open
-    array-read-is-open
-    is-open-requires
-    returns
-    add-i
-    loop-less
-    loop-again
-    returns-2)
+    invariant-loop-i
+    decreases-loop-i
+    overflow_cast-n
+    loop-i-init
+    offset_bounds-froms-i
+    bounds-froms-i
+    offset_bounds-ids-i
+    bounds-ids-i
+    is_open-requires
+    returns-then-is_open
+    overflow_add-i
+    loop-i-smaller
+    loop-i-preserved
+    returns)

@@ -7,15 +7,14 @@ use Rattle.entry.proofs.Absent.{filled-absences}
 use Rattle.entry.proofs.Entry.covered.Statement.{statement}
 use Rattle.entry.proofs.Entry.covered.Tie as tie
 
-returns : tie.Need-returns
+returns-then-self-gt0 : tie.Need-returns-then-self-gt0
 unfolding plain_entry
-returns c = rw (lt-ltb _ _ c.if1.true)
+returns-then-self-gt0 c = rw (lt-ltb _ _ c.if-self-gt0.true)
 
-returns-2 : tie.Need-returns-2
+returns-else-self-gt0 : tie.Need-returns-else-self-gt0
 unfolding plain_entry
-returns-2 c =
-    let s = c.before.before.before in
-    rw (le-ltb _ _ c.before.if1.false) (sym (filled-absences s.args.self s.requires))
+returns-else-self-gt0 c =
+    rw (le-ltb _ _ c.if-self-gt0.false) (sym (filled-absences c.args.self c.requires))
 
-pub covered-spec : {M : Type 1} → statement M
-covered-spec = tie.close (tie.spec returns returns-2)
+pub covered_spec : {M : Type 1} → statement M
+covered_spec = tie.close (tie.spec returns-then-self-gt0 returns-else-self-gt0)

@@ -13,65 +13,62 @@ use borrow.Author.Rules.{rules}
 use Rattle.entry.proofs.Entry.has_issued.Statement.{statement}
 use Rattle.entry.proofs.Entry.has_issued.Tie as tie
 
-abbrev invariant-loop : tie.invariant-loop
-invariant-loop local froms n i₀ i =
+abbrev invariant-loop-i : tie.invariant-loop-i
+invariant-loop-i local froms n i₀ i =
     (i ≤ n) × ((e : Entry) → Fits e → e.froms ≡ froms → e.edges_len ≡ n → any (starting local.0) (drop i (edges_of e)) ≡ any (starting local.0) (edges_of e))
 
-abbrev decreases-loop : tie.decreases-loop
-decreases-loop local froms n i₀ i = n - i
+abbrev decreases-loop-i : tie.decreases-loop-i
+decreases-loop-i local froms n i₀ i = n - i
 
-cast-n : tie.Need-overflow-cast-n invariant-loop decreases-loop
-cast-n c = search rules
+overflow_cast-n : tie.Need-overflow_cast-n invariant-loop-i decreases-loop-i
+overflow_cast-n c = search rules
 
-loop-holds : tie.Need-loop-init invariant-loop decreases-loop
-loop-holds c = search rules
+loop-i-init : tie.Need-loop-i-init invariant-loop-i decreases-loop-i
+loop-i-init c = search rules
 
-mul-if1 : tie.Need-overflow-mul-if1 invariant-loop decreases-loop
-mul-if1 c = search rules
+offset_bounds-froms-i : tie.Need-offset_bounds-froms-i invariant-loop-i decreases-loop-i
+offset_bounds-froms-i c = search rules
 
-array-read-if1 : tie.Need-array-read-if1 invariant-loop decreases-loop
-array-read-if1 c = search rules
+bounds-froms-i : tie.Need-bounds-froms-i invariant-loop-i decreases-loop-i
+bounds-froms-i c = search rules
 
-returns : tie.Need-returns invariant-loop decreases-loop
+returns-then-froms-i : tie.Need-returns-then-froms-i invariant-loop-i decreases-loop-i
+unfolding plain_entry
+returns-then-froms-i c =
+    let l = c.loop-i in
+    sym (edges_hit c.args.self c.requires (starting c.args.local.0) l.i (omega arith) (eq-eqb _ _ c.if-froms-i.true))
+    ∙ l.invariant.1 c.args.self c.requires refl refl
+    ∙ sym (issued-any c.args.local.0 (plain_entry c.args.self).terms)
+
+overflow_add-i : tie.Need-overflow_add-i invariant-loop-i decreases-loop-i
+overflow_add-i c = search rules
+
+loop-i-smaller : tie.Need-loop-i-smaller invariant-loop-i decreases-loop-i
+loop-i-smaller c = search rules
+
+loop-i-preserved : tie.Need-loop-i-preserved invariant-loop-i decreases-loop-i
+loop-i-preserved c =
+    let l = c.loop-i in
+    (search rules, λ e fits f m. edges_miss e fits (starting c.args.local.0) l.i (omega (arith, m)) (rw f (ne_eqb _ _ c.if-froms-i.false)) ∙ l.invariant.1 e fits f m)
+
+returns : tie.Need-returns invariant-loop-i decreases-loop-i
 unfolding plain_entry
 returns c =
-    let s = c.before.before.before.before.before.before in
-    let l = c.before.before.before.loop in
-    sym (edges_hit s.args.self s.requires (starting s.args.local.0) l.i (omega arith) (eq-eqb _ _ c.if1.true))
-    ∙ l.invariant.1 s.args.self s.requires refl refl
-    ∙ sym (issued-any s.args.local.0 (plain_entry s.args.self).terms)
+    let l = c.loop-i in
+    sym (edges-done c.args.self c.requires (starting c.args.local.0) l.i (omega arith)) ∙ l.invariant.1 c.args.self c.requires refl refl ∙ sym (issued-any c.args.local.0 (plain_entry c.args.self).terms)
 
-add-i : tie.Need-overflow-add-i invariant-loop decreases-loop
-add-i c = search rules
-
-loop-less : tie.Need-loop-smaller invariant-loop decreases-loop
-loop-less c = search rules
-
-loop-again : tie.Need-loop-preserved invariant-loop decreases-loop
-loop-again c =
-    let s = c.before.before.before.before.before.before in
-    let l = c.before.before.before.loop in
-    (search rules, λ e fits f m. edges_miss e fits (starting s.args.local.0) l.i (omega (arith, m)) (rw f (ne_eqb _ _ c.if1.false)) ∙ l.invariant.1 e fits f m)
-
-returns-2 : tie.Need-returns-2 invariant-loop decreases-loop
-unfolding plain_entry
-returns-2 c =
-    let s = c.before.before.before.before in
-    let l = c.before.loop in
-    sym (edges-done s.args.self s.requires (starting s.args.local.0) l.i (omega arith)) ∙ l.invariant.1 s.args.self s.requires refl refl ∙ sym (issued-any s.args.local.0 (plain_entry s.args.self).terms)
-
-pub has-issued-spec : {M : Type 1} → statement M
-has-issued-spec =
+pub has_issued_spec : {M : Type 1} → statement M
+has_issued_spec =
     tie.close
     (tie.spec
-    invariant-loop
-    decreases-loop
-    cast-n
-    loop-holds
-    mul-if1
-    array-read-if1
-    returns
-    add-i
-    loop-less
-    loop-again
-    returns-2)
+    invariant-loop-i
+    decreases-loop-i
+    overflow_cast-n
+    loop-i-init
+    offset_bounds-froms-i
+    bounds-froms-i
+    returns-then-froms-i
+    overflow_add-i
+    loop-i-smaller
+    loop-i-preserved
+    returns)

@@ -6,17 +6,17 @@ use borrow.Author.Rules.{rules}
 use Rattle.entry.proofs.Entry.has_mark.Statement.{statement}
 use Rattle.entry.proofs.Entry.has_mark.Tie as tie
 
-cast-n : tie.Need-overflow-cast-n
-cast-n c = search rules
+overflow_cast-n : tie.Need-overflow_cast-n
+overflow_cast-n c = search rules
 
-sub-contains : tie.Need-overflow-sub-contains
-sub-contains c = search rules
+slice_bounds-contains-count : tie.Need-slice_bounds-contains-count
+slice_bounds-contains-count c = search rules
 
-part-contains-start : tie.Need-slice-bounds-contains-start
-part-contains-start c = search rules
+slice_bounds-contains-start : tie.Need-slice_bounds-contains-start
+slice_bounds-contains-start c = search rules
 
-part-contains-end : tie.Need-slice-bounds-contains-end
-part-contains-end c = search rules
+slice_bounds-contains-end : tie.Need-slice_bounds-contains-end
+slice_bounds-contains-end c = search rules
 
 contains-requires : tie.Need-contains-requires
 contains-requires c κs = search rules
@@ -25,7 +25,7 @@ returns : tie.Need-returns
 unfolding plain_entry
 returns c = simp unary_clauses at c.contains.ensures
 
-pub has-mark-spec : {M : Type 1} → statement M
-has-mark-spec =
+pub has_mark_spec : {M : Type 1} → statement M
+has_mark_spec =
     tie.close
-    (tie.spec cast-n sub-contains part-contains-start part-contains-end contains-requires returns)
+    (tie.spec overflow_cast-n slice_bounds-contains-count slice_bounds-contains-start slice_bounds-contains-end contains-requires returns)

@@ -9,45 +9,45 @@ use borrow.Author.Rules.{rules}
 use Rattle.entry.proofs.Entry.is_closed.Statement.{statement}
 use Rattle.entry.proofs.Entry.is_closed.Tie as tie
 
-is-settling-requires : tie.Need-is-settling-requires
-is-settling-requires c κs = search rules
+is_settling-requires : tie.Need-is_settling-requires
+is_settling-requires c κs = search rules
 
-has-issued-requires : tie.Need-has-issued-requires
-has-issued-requires c κs = search rules
+has_issued-requires : tie.Need-has_issued-requires
+has_issued-requires c κs = search rules
 
-all-marked-requires : tie.Need-all-marked-requires
-all-marked-requires c κs = search rules
+all_marked-requires : tie.Need-all_marked-requires
+all_marked-requires c κs = search rules
 
-returns : tie.Need-returns
+returns-then-has_issued : tie.Need-returns-then-has_issued
 unfolding plain_entry
-returns c =
-    let a = c.before.before.before.before.before.args in
-    let part : is_settling (plain_part a.self.part) ≡ true = sym c.before.before.before.before.is-settling.ensures ∙ c.before.before.before.if1.true in
-    let some : filled (issued a.local.0 (terms_of a.self)) ≡ true = sym c.before.before.has-issued.ensures ∙ c.before.if2.true in
-    rw (part, some) c.all-marked.ensures
+returns-then-has_issued c =
+    let a = c.args in
+    let part : is_settling (plain_part a.self.part) ≡ true = sym c.is_settling.ensures ∙ c.if-is_settling.true in
+    let some : filled (issued a.local.0 (terms_of a.self)) ≡ true = sym c.has_issued.ensures ∙ c.if-has_issued.true in
+    rw (part, some) c.all_marked.ensures
 
-returns-2 : tie.Need-returns-2
+returns-else-has_issued : tie.Need-returns-else-has_issued
 unfolding plain_entry
-returns-2 c =
-    let a = c.before.before.before.before.args in
-    let part : is_settling (plain_part a.self.part) ≡ true = sym c.before.before.before.is-settling.ensures ∙ c.before.before.if1.true in
-    let none : filled (issued a.local.0 (terms_of a.self)) ≡ false = sym c.before.has-issued.ensures ∙ c.if2.false in
-    rw (part, none) c.if2.false
+returns-else-has_issued c =
+    let a = c.args in
+    let part : is_settling (plain_part a.self.part) ≡ true = sym c.is_settling.ensures ∙ c.if-is_settling.true in
+    let none : filled (issued a.local.0 (terms_of a.self)) ≡ false = sym c.has_issued.ensures ∙ c.if-has_issued.false in
+    rw (part, none) c.if-has_issued.false
 
-returns-3 : tie.Need-returns-3
+returns-else-is_settling : tie.Need-returns-else-is_settling
 unfolding plain_entry
-returns-3 c =
-    let a = c.before.before.args in
-    let part : is_settling (plain_part a.self.part) ≡ false = sym c.before.is-settling.ensures ∙ c.if1.false in
-    rw part c.if1.false
+returns-else-is_settling c =
+    let a = c.args in
+    let part : is_settling (plain_part a.self.part) ≡ false = sym c.is_settling.ensures ∙ c.if-is_settling.false in
+    rw part c.if-is_settling.false
 
-pub is-closed-spec : {M : Type 1} → statement M
-is-closed-spec =
+pub is_closed_spec : {M : Type 1} → statement M
+is_closed_spec =
     tie.close
     (tie.spec
-    is-settling-requires
-    has-issued-requires
-    all-marked-requires
-    returns
-    returns-2
-    returns-3)
+    is_settling-requires
+    has_issued-requires
+    all_marked-requires
+    returns-then-has_issued
+    returns-else-has_issued
+    returns-else-is_settling)

@@ -6,19 +6,19 @@ use borrow.Author.Rules.{rules}
 use Rattle.entry.proofs.Entry.is_open.Statement.{statement}
 use Rattle.entry.proofs.Entry.is_open.Tie as tie
 
-record-key-requires : tie.Need-record-key-requires
-record-key-requires c κs = search rules
+record_key-key-requires : tie.Need-record_key-key-requires
+record_key-key-requires c κs = search rules
 
-has-mark-requires : tie.Need-has-mark-requires
-has-mark-requires c κs = search rules
+has_mark-requires : tie.Need-has_mark-requires
+has_mark-requires c κs = search rules
 
-returns : tie.Need-returns
+returns-then-from-local : tie.Need-returns-then-from-local
 unfolding plain_entry
-returns c = rw (eq-eqb _ _ c.before.if1.true, c.has-mark.ensures, c.before.before.before.before.record-key.ensures)
+returns-then-from-local c = rw (eq-eqb _ _ c.if-from-local.true, c.has_mark.ensures, c.record_key-key.ensures)
 
-returns-2 : tie.Need-returns-2
+returns-else-from-local : tie.Need-returns-else-from-local
 unfolding plain_entry
-returns-2 c = rw (ne_eqb _ _ c.if1.false)
+returns-else-from-local c = rw (ne_eqb _ _ c.if-from-local.false)
 
-pub is-open-spec : {M : Type 1} → statement M
-is-open-spec = tie.close (tie.spec record-key-requires has-mark-requires returns returns-2)
+pub is_open_spec : {M : Type 1} → statement M
+is_open_spec = tie.close (tie.spec record_key-key-requires has_mark-requires returns-then-from-local returns-else-from-local)

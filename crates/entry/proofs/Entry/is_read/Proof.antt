@@ -12,77 +12,74 @@ use borrow.Author.Rules.{rules}
 use Rattle.entry.proofs.Entry.is_read.Statement.{statement}
 use Rattle.entry.proofs.Entry.is_read.Tie as tie
 
-abbrev invariant-loop : tie.invariant-loop
-invariant-loop shard key self n i₀ i = (i ≤ n) × (any (at absence_key (absence_key (absence shard.0 key))) (drop i (absences_of self)) ≡ any (at absence_key (absence_key (absence shard.0 key))) (absences_of self))
+abbrev invariant-loop-i : tie.invariant-loop-i
+invariant-loop-i shard key self n i₀ i = (i ≤ n) × (any (at absence_key (absence_key (absence shard.0 key))) (drop i (absences_of self)) ≡ any (at absence_key (absence_key (absence shard.0 key))) (absences_of self))
 
-abbrev decreases-loop : tie.decreases-loop
-decreases-loop shard key self n i₀ i = n - i
+abbrev decreases-loop-i : tie.decreases-loop-i
+decreases-loop-i shard key self n i₀ i = n - i
 
-cast-n : tie.Need-overflow-cast-n invariant-loop decreases-loop
-cast-n c = search rules
+overflow_cast-n : tie.Need-overflow_cast-n invariant-loop-i decreases-loop-i
+overflow_cast-n c = search rules
 
-loop-holds : tie.Need-loop-init invariant-loop decreases-loop
-loop-holds c = search rules
+loop-i-init : tie.Need-loop-i-init invariant-loop-i decreases-loop-i
+loop-i-init c = search rules
 
-mul-t10 : tie.Need-overflow-mul-t10 invariant-loop decreases-loop
-mul-t10 c = search rules
+offset_bounds-self-i : tie.Need-offset_bounds-self-i invariant-loop-i decreases-loop-i
+offset_bounds-self-i c = search rules
 
-element-copy-out-t13 : tie.Need-element-copy-out-t13 invariant-loop decreases-loop
-element-copy-out-t13 c = search rules
+bounds-self-i : tie.Need-bounds-self-i invariant-loop-i decreases-loop-i
+bounds-self-i c = search rules
 
-mul-is-same : tie.Need-overflow-mul-is-same invariant-loop decreases-loop
-mul-is-same c = search rules
+offset_bounds-self-i-in-loop-i : tie.Need-offset_bounds-self-i-in-loop-i invariant-loop-i decreases-loop-i
+offset_bounds-self-i-in-loop-i c = search rules
 
-element-copy-out-is-same : tie.Need-element-copy-out-is-same invariant-loop decreases-loop
-element-copy-out-is-same c = search rules
+bounds-self-i-in-loop-i : tie.Need-bounds-self-i-in-loop-i invariant-loop-i decreases-loop-i
+bounds-self-i-in-loop-i c = search rules
 
-is-same-requires : tie.Need-is-same-requires invariant-loop decreases-loop
-is-same-requires c κs = search rules
+is_same-requires : tie.Need-is_same-requires invariant-loop-i decreases-loop-i
+is_same-requires c κs = search rules
 
-returns : tie.Need-returns invariant-loop decreases-loop
+returns-then-is_same : tie.Need-returns-then-is_same invariant-loop-i decreases-loop-i
+unfolding plain_entry
+returns-then-is_same c =
+    let l = c.loop-i in
+    let e = pairs-cons absence c.args.self.absent_shards c.args.self.absent_keys c.args.self.absences_len (omega arith) (omega arith) 0 0 l.i (omega arith) in
+    sym (any_met (at absence_key (absence_key (absence c.args.shard.0 c.args.key))) _ l.i (absences_of c.args.self) e (sym c.is_same.ensures ∙ c.if-is_same.true)) ∙ l.invariant.1
+
+overflow_add-i : tie.Need-overflow_add-i invariant-loop-i decreases-loop-i
+overflow_add-i c = search rules
+
+loop-i-smaller : tie.Need-loop-i-smaller invariant-loop-i decreases-loop-i
+loop-i-smaller c = search rules
+
+loop-i-preserved : tie.Need-loop-i-preserved invariant-loop-i decreases-loop-i
+loop-i-preserved c =
+    let l = c.loop-i in
+    let e = pairs-cons absence c.args.self.absent_shards c.args.self.absent_keys c.args.self.absences_len (omega arith) (omega arith) 0 0 l.i (omega arith) in
+    (search rules, any-passed (at absence_key (absence_key (absence c.args.shard.0 c.args.key))) _ l.i (absences_of c.args.self) e (sym c.is_same.ensures ∙ c.if-is_same.false) ∙ l.invariant.1)
+
+returns : tie.Need-returns invariant-loop-i decreases-loop-i
 unfolding plain_entry
 returns c =
-    let s = c.before.before.before.before.before.before in
-    let l = c.before.before.before.before.before.loop in
-    let e = pairs-cons absence s.args.t1.absent_shards s.args.t1.absent_keys s.args.t1.absences_len (omega arith) (omega arith) 0 0 l.i (omega arith) in
-    sym (any_met (at absence_key (absence_key (absence s.args.shard.0 s.args.key))) _ l.i (absences_of s.args.t1) e (sym c.before.is_same.ensures ∙ c.if1.true)) ∙ l.invariant.1
+    let l = c.loop-i in
+    let e = pairs_end absence c.args.self.absent_shards c.args.self.absent_keys c.args.self.absences_len (omega arith) (omega arith) l.i (omega arith) in
+    sym (any-over (at absence_key (absence_key (absence c.args.shard.0 c.args.key))) l.i (absences_of c.args.self) e) ∙ l.invariant.1
 
-add-i : tie.Need-overflow-add-i invariant-loop decreases-loop
-add-i c = search rules
-
-loop-less : tie.Need-loop-smaller invariant-loop decreases-loop
-loop-less c = search rules
-
-loop-again : tie.Need-loop-preserved invariant-loop decreases-loop
-loop-again c =
-    let s = c.before.before.before.before.before.before in
-    let l = c.before.before.before.before.before.loop in
-    let e = pairs-cons absence s.args.t1.absent_shards s.args.t1.absent_keys s.args.t1.absences_len (omega arith) (omega arith) 0 0 l.i (omega arith) in
-    (search rules, any-passed (at absence_key (absence_key (absence s.args.shard.0 s.args.key))) _ l.i (absences_of s.args.t1) e (sym c.before.is_same.ensures ∙ c.if1.false) ∙ l.invariant.1)
-
-returns-2 : tie.Need-returns-2 invariant-loop decreases-loop
-unfolding plain_entry
-returns-2 c =
-    let s = c.before.before in
-    let l = c.before.loop in
-    let e = pairs_end absence s.args.t1.absent_shards s.args.t1.absent_keys s.args.t1.absences_len (omega arith) (omega arith) l.i (omega arith) in
-    sym (any-over (at absence_key (absence_key (absence s.args.shard.0 s.args.key))) l.i (absences_of s.args.t1) e) ∙ l.invariant.1
-
-pub is-read-spec : {M : Type 1} → statement M
-is-read-spec =
+pub is_read_spec : {M : Type 1} → statement M
+is_read_spec =
     tie.close
     (tie.spec
-    invariant-loop
-    decreases-loop
-    cast-n
-    loop-holds
-    mul-t10
-    element-copy-out-t13
-    mul-is-same
-    element-copy-out-is-same
-    is-same-requires
-    returns
-    add-i
-    loop-less
-    loop-again
-    returns-2)
+    invariant-loop-i
+    decreases-loop-i
+    overflow_cast-n
+    loop-i-init
+    offset_bounds-self-i
+    bounds-self-i
+    offset_bounds-self-i-in-loop-i
+    bounds-self-i-in-loop-i
+    is_same-requires
+    returns-then-is_same
+    overflow_add-i
+    loop-i-smaller
+    loop-i-preserved
+    returns)

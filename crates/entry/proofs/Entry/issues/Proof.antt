@@ -11,76 +11,73 @@ use borrow.Author.Rules.{rules}
 use Rattle.entry.proofs.Entry.issues.Statement.{statement}
 use Rattle.entry.proofs.Entry.issues.Tie as tie
 
-abbrev invariant-loop : tie.invariant-loop
-invariant-loop local r self n i₀ i = (i ≤ n) × (any (issuing local.0 r.0) (drop i (edges_of self)) ≡ any (issuing local.0 r.0) (edges_of self))
+abbrev invariant-loop-i : tie.invariant-loop-i
+invariant-loop-i local r self n i₀ i = (i ≤ n) × (any (issuing local.0 r.0) (drop i (edges_of self)) ≡ any (issuing local.0 r.0) (edges_of self))
 
-abbrev decreases-loop : tie.decreases-loop
-decreases-loop local r self n i₀ i = n - i
+abbrev decreases-loop-i : tie.decreases-loop-i
+decreases-loop-i local r self n i₀ i = n - i
 
-cast-n : tie.Need-overflow-cast-n invariant-loop decreases-loop
-cast-n c = search rules
+overflow_cast-n : tie.Need-overflow_cast-n invariant-loop-i decreases-loop-i
+overflow_cast-n c = search rules
 
-loop-holds : tie.Need-loop-init invariant-loop decreases-loop
-loop-holds c = search rules
+loop-i-init : tie.Need-loop-i-init invariant-loop-i decreases-loop-i
+loop-i-init c = search rules
 
-mul-t10 : tie.Need-overflow-mul-t10 invariant-loop decreases-loop
-mul-t10 c = search rules
+offset_bounds-self-i : tie.Need-offset_bounds-self-i invariant-loop-i decreases-loop-i
+offset_bounds-self-i c = search rules
 
-element-copy-out-t13 : tie.Need-element-copy-out-t13 invariant-loop decreases-loop
-element-copy-out-t13 c = search rules
+bounds-self-i : tie.Need-bounds-self-i invariant-loop-i decreases-loop-i
+bounds-self-i c = search rules
 
-mul-is-issue : tie.Need-overflow-mul-is-issue invariant-loop decreases-loop
-mul-is-issue c = search rules
+offset_bounds-self-i-in-loop-i : tie.Need-offset_bounds-self-i-in-loop-i invariant-loop-i decreases-loop-i
+offset_bounds-self-i-in-loop-i c = search rules
 
-element-copy-out-is-issue : tie.Need-element-copy-out-is-issue invariant-loop decreases-loop
-element-copy-out-is-issue c = search rules
+bounds-self-i-in-loop-i : tie.Need-bounds-self-i-in-loop-i invariant-loop-i decreases-loop-i
+bounds-self-i-in-loop-i c = search rules
 
-is-issue-requires : tie.Need-is-issue-requires invariant-loop decreases-loop
-is-issue-requires c κs = search rules
+is_issue-requires : tie.Need-is_issue-requires invariant-loop-i decreases-loop-i
+is_issue-requires c κs = search rules
 
-returns : tie.Need-returns invariant-loop decreases-loop
+returns-then-is_issue : tie.Need-returns-then-is_issue invariant-loop-i decreases-loop-i
+unfolding plain_entry
+returns-then-is_issue c =
+    let l = c.loop-i in
+    sym (edges_hit c.args.self c.requires (issuing c.args.local.0 c.args.r.0) l.i (omega arith) (sym c.is_issue.ensures ∙ c.if-is_issue.true))
+    ∙ l.invariant.1
+    ∙ sym (issues-any c.args.local.0 c.args.r.0 (plain_entry c.args.self).terms)
+
+overflow_add-i : tie.Need-overflow_add-i invariant-loop-i decreases-loop-i
+overflow_add-i c = search rules
+
+loop-i-smaller : tie.Need-loop-i-smaller invariant-loop-i decreases-loop-i
+loop-i-smaller c = search rules
+
+loop-i-preserved : tie.Need-loop-i-preserved invariant-loop-i decreases-loop-i
+loop-i-preserved c =
+    let l = c.loop-i in
+    (search rules, edges_miss c.args.self c.requires (issuing c.args.local.0 c.args.r.0) l.i (omega arith) (sym c.is_issue.ensures ∙ c.if-is_issue.false) ∙ l.invariant.1)
+
+returns : tie.Need-returns invariant-loop-i decreases-loop-i
 unfolding plain_entry
 returns c =
-    let s = c.before.before.before.before.before.before in
-    let l = c.before.before.before.before.before.loop in
-    sym (edges_hit s.args.t1 s.requires (issuing s.args.local.0 s.args.r.0) l.i (omega arith) (sym c.before.is-issue.ensures ∙ c.if1.true))
-    ∙ l.invariant.1
-    ∙ sym (issues-any s.args.local.0 s.args.r.0 (plain_entry s.args.t1).terms)
+    let l = c.loop-i in
+    sym (edges-done c.args.self c.requires (issuing c.args.local.0 c.args.r.0) l.i (omega arith)) ∙ l.invariant.1 ∙ sym (issues-any c.args.local.0 c.args.r.0 (plain_entry c.args.self).terms)
 
-add-i : tie.Need-overflow-add-i invariant-loop decreases-loop
-add-i c = search rules
-
-loop-less : tie.Need-loop-smaller invariant-loop decreases-loop
-loop-less c = search rules
-
-loop-again : tie.Need-loop-preserved invariant-loop decreases-loop
-loop-again c =
-    let s = c.before.before.before.before.before.before in
-    let l = c.before.before.before.before.before.loop in
-    (search rules, edges_miss s.args.t1 s.requires (issuing s.args.local.0 s.args.r.0) l.i (omega arith) (sym c.before.is-issue.ensures ∙ c.if1.false) ∙ l.invariant.1)
-
-returns-2 : tie.Need-returns-2 invariant-loop decreases-loop
-unfolding plain_entry
-returns-2 c =
-    let s = c.before.before in
-    let l = c.before.loop in
-    sym (edges-done s.args.t1 s.requires (issuing s.args.local.0 s.args.r.0) l.i (omega arith)) ∙ l.invariant.1 ∙ sym (issues-any s.args.local.0 s.args.r.0 (plain_entry s.args.t1).terms)
-
-pub issues-spec : {M : Type 1} → statement M
-issues-spec =
+pub issues_spec : {M : Type 1} → statement M
+issues_spec =
     tie.close
     (tie.spec
-    invariant-loop
-    decreases-loop
-    cast-n
-    loop-holds
-    mul-t10
-    element-copy-out-t13
-    mul-is-issue
-    element-copy-out-is-issue
-    is-issue-requires
-    returns
-    add-i
-    loop-less
-    loop-again
-    returns-2)
+    invariant-loop-i
+    decreases-loop-i
+    overflow_cast-n
+    loop-i-init
+    offset_bounds-self-i
+    bounds-self-i
+    offset_bounds-self-i-in-loop-i
+    bounds-self-i-in-loop-i
+    is_issue-requires
+    returns-then-is_issue
+    overflow_add-i
+    loop-i-smaller
+    loop-i-preserved
+    returns)

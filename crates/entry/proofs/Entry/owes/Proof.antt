@@ -11,72 +11,69 @@ use borrow.Author.Rules.{rules}
 use Rattle.entry.proofs.Entry.owes.Statement.{statement}
 use Rattle.entry.proofs.Entry.owes.Tie as tie
 
-abbrev invariant-loop : tie.invariant-loop
-invariant-loop local self n i₀ i = (i ≤ n) × (any (owing local.0) (drop i (edges_of self)) ≡ any (owing local.0) (edges_of self))
+abbrev invariant-loop-i : tie.invariant-loop-i
+invariant-loop-i local self n i₀ i = (i ≤ n) × (any (owing local.0) (drop i (edges_of self)) ≡ any (owing local.0) (edges_of self))
 
-abbrev decreases-loop : tie.decreases-loop
-decreases-loop local self n i₀ i = n - i
+abbrev decreases-loop-i : tie.decreases-loop-i
+decreases-loop-i local self n i₀ i = n - i
 
-cast-n : tie.Need-overflow-cast-n invariant-loop decreases-loop
-cast-n c = search rules
+overflow_cast-n : tie.Need-overflow_cast-n invariant-loop-i decreases-loop-i
+overflow_cast-n c = search rules
 
-loop-holds : tie.Need-loop-init invariant-loop decreases-loop
-loop-holds c = search rules
+loop-i-init : tie.Need-loop-i-init invariant-loop-i decreases-loop-i
+loop-i-init c = search rules
 
-mul-t9 : tie.Need-overflow-mul-t9 invariant-loop decreases-loop
-mul-t9 c = search rules
+offset_bounds-self-i : tie.Need-offset_bounds-self-i invariant-loop-i decreases-loop-i
+offset_bounds-self-i c = search rules
 
-element-copy-out-t12 : tie.Need-element-copy-out-t12 invariant-loop decreases-loop
-element-copy-out-t12 c = search rules
+bounds-self-i : tie.Need-bounds-self-i invariant-loop-i decreases-loop-i
+bounds-self-i c = search rules
 
-element-copy-out-is-owed-edge : tie.Need-element-copy-out-is-owed-edge invariant-loop decreases-loop
-element-copy-out-is-owed-edge c = search rules
+bounds-self-i-in-loop-i : tie.Need-bounds-self-i-in-loop-i invariant-loop-i decreases-loop-i
+bounds-self-i-in-loop-i c = search rules
 
-is-owed-edge-requires : tie.Need-is-owed-edge-requires invariant-loop decreases-loop
-is-owed-edge-requires c κs = search rules
+is_owed_edge-requires : tie.Need-is_owed_edge-requires invariant-loop-i decreases-loop-i
+is_owed_edge-requires c κs = search rules
 
-returns : tie.Need-returns invariant-loop decreases-loop
+returns-then-is_owed_edge : tie.Need-returns-then-is_owed_edge invariant-loop-i decreases-loop-i
+unfolding plain_entry
+returns-then-is_owed_edge c =
+    let l = c.loop-i in
+    sym (edges_hit c.args.self c.requires (owing c.args.local.0) l.i (omega arith) (sym c.is_owed_edge.ensures ∙ c.if-is_owed_edge.true))
+    ∙ l.invariant.1
+    ∙ sym (owes_any c.args.local.0 (plain_entry c.args.self).terms)
+
+overflow_add-i : tie.Need-overflow_add-i invariant-loop-i decreases-loop-i
+overflow_add-i c = search rules
+
+loop-i-smaller : tie.Need-loop-i-smaller invariant-loop-i decreases-loop-i
+loop-i-smaller c = search rules
+
+loop-i-preserved : tie.Need-loop-i-preserved invariant-loop-i decreases-loop-i
+loop-i-preserved c =
+    let l = c.loop-i in
+    (search rules, edges_miss c.args.self c.requires (owing c.args.local.0) l.i (omega arith) (sym c.is_owed_edge.ensures ∙ c.if-is_owed_edge.false) ∙ l.invariant.1)
+
+returns : tie.Need-returns invariant-loop-i decreases-loop-i
 unfolding plain_entry
 returns c =
-    let s = c.before.before.before.before.before.before in
-    let l = c.before.before.before.before.before.loop in
-    sym (edges_hit s.args.t1 s.requires (owing s.args.local.0) l.i (omega arith) (sym c.before.is-owed-edge.ensures ∙ c.if1.true))
-    ∙ l.invariant.1
-    ∙ sym (owes_any s.args.local.0 (plain_entry s.args.t1).terms)
+    let l = c.loop-i in
+    sym (edges-done c.args.self c.requires (owing c.args.local.0) l.i (omega arith)) ∙ l.invariant.1 ∙ sym (owes_any c.args.local.0 (plain_entry c.args.self).terms)
 
-add-i : tie.Need-overflow-add-i invariant-loop decreases-loop
-add-i c = search rules
-
-loop-less : tie.Need-loop-smaller invariant-loop decreases-loop
-loop-less c = search rules
-
-loop-again : tie.Need-loop-preserved invariant-loop decreases-loop
-loop-again c =
-    let s = c.before.before.before.before.before.before in
-    let l = c.before.before.before.before.before.loop in
-    (search rules, edges_miss s.args.t1 s.requires (owing s.args.local.0) l.i (omega arith) (sym c.before.is-owed-edge.ensures ∙ c.if1.false) ∙ l.invariant.1)
-
-returns-2 : tie.Need-returns-2 invariant-loop decreases-loop
-unfolding plain_entry
-returns-2 c =
-    let s = c.before.before in
-    let l = c.before.loop in
-    sym (edges-done s.args.t1 s.requires (owing s.args.local.0) l.i (omega arith)) ∙ l.invariant.1 ∙ sym (owes_any s.args.local.0 (plain_entry s.args.t1).terms)
-
-pub owes-spec : {M : Type 1} → statement M
-owes-spec =
+pub owes_spec : {M : Type 1} → statement M
+owes_spec =
     tie.close
     (tie.spec
-    invariant-loop
-    decreases-loop
-    cast-n
-    loop-holds
-    mul-t9
-    element-copy-out-t12
-    element-copy-out-is-owed-edge
-    is-owed-edge-requires
-    returns
-    add-i
-    loop-less
-    loop-again
-    returns-2)
+    invariant-loop-i
+    decreases-loop-i
+    overflow_cast-n
+    loop-i-init
+    offset_bounds-self-i
+    bounds-self-i
+    bounds-self-i-in-loop-i
+    is_owed_edge-requires
+    returns-then-is_owed_edge
+    overflow_add-i
+    loop-i-smaller
+    loop-i-preserved
+    returns)

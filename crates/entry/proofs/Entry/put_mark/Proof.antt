@@ -11,41 +11,40 @@ use borrow.Author.Rules.{rules}
 use Rattle.entry.proofs.Entry.put_mark.Statement.{statement}
 use Rattle.entry.proofs.Entry.put_mark.Tie as tie
 
-abbrev from : tie.Joined1 → tie.Start
+abbrev from : tie.Joined-self → tie.Start
 from c = c.before.before.before.before.before.before
 
-back : (c : tie.Joined1) → c.if1.e ≡ (from c).args.self.returned || (from c).args.is-return
+back : (c : tie.Joined-self) → c.if-self.e ≡ (from c).args.self.returned || (from c).args.is_return
 back c =
     let a = (from c).args in
     ⊎_elim
-    (λ w. either_first a.self.returned a.is-return c.if1.e w.1 w.0.taken)
-    (λ w. either_second a.self.returned a.is-return c.if1.e w.1 w.0.left)
-    c.if1.branch
+    (λ w. either_first a.self.returned a.is_return c.if-self.e w.e-is w.if-self.true)
+    (λ w. either_second a.self.returned a.is_return c.if-self.e w.e-is w.if-self.false)
+    c.if-self.branch-raw
 
-cast-n : tie.Need-overflow-cast-n
-cast-n c = search rules
+overflow_cast-n : tie.Need-overflow_cast-n
+overflow_cast-n c = search rules
 
-slice-aggregate-include : tie.Need-slice-aggregate-include
-slice-aggregate-include c = search rules
+slice_bounds-include-end : tie.Need-slice_bounds-include-end
+slice_bounds-include-end c = search rules
 
-include-requires : tie.Need-include-requires
-include-requires c κs =
-    let s = c.before.before.before in
-    let f = s.requires.fits in
-    (omega (arith, f.marks_len, f.marks), s.requires.rising, omega (arith, s.requires.room, f.marks))
+include-m-requires : tie.Need-include-m-requires
+include-m-requires c κs =
+    let f = c.requires.fits in
+    (omega (arith, f.marks_len, f.marks), c.requires.rising, omega (arith, c.requires.room, f.marks))
 
-room : (c : tie.Joined1) → c.before.before.include.result ≤ 8
+room : (c : tie.Joined-self) → c.include-m.result ≤ 8
 room c =
-    let o = c.before.before.include.ensures in
+    let o = c.include-m.ensures in
     omega (arith, o.room, o.size, (from c).requires.fits.marks)
 
-cast-e : tie.Need-overflow-cast-e
-cast-e c = omega (arith, room c)
+overflow_cast-e : tie.Need-overflow_cast-e
+overflow_cast-e c = omega (arith, room c)
 
 returns : tie.Need-returns
 unfolding plain_entry
 returns c =
-    let o = c.before.before.include.ensures in
+    let o = c.include-m.ensures in
     let f = (from c).requires.fits in
     record {
       fits = record {
@@ -69,5 +68,5 @@ returns c =
       plain = rw (back c, o.front);
     }
 
-pub put-mark-spec : {M : Type 1} → statement M
-put-mark-spec = tie.close (tie.spec cast-n slice-aggregate-include include-requires cast-e returns)
+pub put_mark_spec : {M : Type 1} → statement M
+put_mark_spec = tie.close (tie.spec overflow_cast-n slice_bounds-include-end include-m-requires overflow_cast-e returns)

@@ -14,76 +14,76 @@ use borrow.Author.Rules.{rules}
 use Rattle.entry.proofs.Entry.reaches_beyond.Statement.{statement}
 use Rattle.entry.proofs.Entry.reaches_beyond.Tie as tie
 
-abbrev invariant-loop : tie.invariant-loop
-invariant-loop local routes n i₀ i =
+abbrev invariant-loop-i : tie.invariant-loop-i
+invariant-loop-i local routes n i₀ i =
     (i ≤ n) × (n ≤ 8) × (length routes ≡ 8) × (any (is_remote local.0) (drop i (take n routes)) ≡ any (is_remote local.0) (take n routes))
 
-abbrev decreases-loop : tie.decreases-loop
-decreases-loop local routes n i₀ i = n - i
+abbrev decreases-loop-i : tie.decreases-loop-i
+decreases-loop-i local routes n i₀ i = n - i
 
-cast-n : tie.Need-overflow-cast-n invariant-loop decreases-loop
-cast-n c = search rules
+overflow_cast-n : tie.Need-overflow_cast-n invariant-loop-i decreases-loop-i
+overflow_cast-n c = search rules
 
-loop-holds : tie.Need-loop-init invariant-loop decreases-loop
-loop-holds c = search rules
+loop-i-init : tie.Need-loop-i-init invariant-loop-i decreases-loop-i
+loop-i-init c = search rules
 
-mul-owns : tie.Need-overflow-mul-owns invariant-loop decreases-loop
-mul-owns c = search rules
+offset_bounds-routes-i : tie.Need-offset_bounds-routes-i invariant-loop-i decreases-loop-i
+offset_bounds-routes-i c = search rules
 
-array-read-owns : tie.Need-array-read-owns invariant-loop decreases-loop
-array-read-owns c = search rules
+bounds-routes-i : tie.Need-bounds-routes-i invariant-loop-i decreases-loop-i
+bounds-routes-i c = search rules
 
-owns-requires : tie.Need-owns-requires invariant-loop decreases-loop
+owns-requires : tie.Need-owns-requires invariant-loop-i decreases-loop-i
 owns-requires c κs = search rules
 
-returns : tie.Need-returns invariant-loop decreases-loop
+returns-then-not-owns : tie.Need-returns-then-not-owns invariant-loop-i decreases-loop-i
+unfolding plain_entry
+returns-then-not-owns c =
+    let l = c.loop-i in
+    let a = c.args in
+    let p = is_remote a.local.0 in
+    let rs = a.self.routes in
+    let n = a.self.routes_len in
+    sym (any_hit p _ rs l.i n (omega arith) (omega arith) (ap not (sym c.owns.ensures) ∙ c.if-not-owns.true-raw)) ∙ l.invariant.3 ∙ sym (filled-kept p (take n rs))
+
+overflow_add-i : tie.Need-overflow_add-i invariant-loop-i decreases-loop-i
+overflow_add-i c = search rules
+
+loop-i-smaller : tie.Need-loop-i-smaller invariant-loop-i decreases-loop-i
+loop-i-smaller c = search rules
+
+loop-i-preserved : tie.Need-loop-i-preserved invariant-loop-i decreases-loop-i
+loop-i-preserved c =
+    let l = c.loop-i in
+    let a = c.args in
+    let p = is_remote a.local.0 in
+    let rs = a.self.routes in
+    let n = a.self.routes_len in
+    (search rules, search rules, search rules, any_miss p _ rs l.i n (omega arith) (omega arith) (ap not (sym c.owns.ensures) ∙ c.if-not-owns.false-raw) ∙ l.invariant.3)
+
+returns : tie.Need-returns invariant-loop-i decreases-loop-i
 unfolding plain_entry
 returns c =
-    let l = c.before.before.before.loop in
-    let a = c.before.before.before.before.before.before.args in
-    let p = is_remote a.local.0 in
-    let rs = a.self.routes in
-    let n = a.self.routes_len in
-    sym (any_hit p _ rs l.i n (omega arith) (omega arith) (ap not (sym c.before.owns.ensures) ∙ c.if1.true)) ∙ l.invariant.3 ∙ sym (filled-kept p (take n rs))
-
-add-i : tie.Need-overflow-add-i invariant-loop decreases-loop
-add-i c = search rules
-
-loop-less : tie.Need-loop-smaller invariant-loop decreases-loop
-loop-less c = search rules
-
-loop-again : tie.Need-loop-preserved invariant-loop decreases-loop
-loop-again c =
-    let l = c.before.before.before.loop in
-    let a = c.before.before.before.before.before.before.args in
-    let p = is_remote a.local.0 in
-    let rs = a.self.routes in
-    let n = a.self.routes_len in
-    (search rules, search rules, search rules, any_miss p _ rs l.i n (omega arith) (omega arith) (ap not (sym c.before.owns.ensures) ∙ c.if1.false) ∙ l.invariant.3)
-
-returns-2 : tie.Need-returns-2 invariant-loop decreases-loop
-unfolding plain_entry
-returns-2 c =
-    let l = c.before.loop in
-    let a = c.before.before.before.before.args in
+    let l = c.loop-i in
+    let a = c.args in
     let p = is_remote a.local.0 in
     let rs = a.self.routes in
     let n = a.self.routes_len in
     sym (any-end p rs l.i n (omega arith) (omega arith)) ∙ l.invariant.3 ∙ sym (filled-kept p (take n rs))
 
-pub reaches-beyond-spec : {M : Type 1} → statement M
-reaches-beyond-spec =
+pub reaches_beyond_spec : {M : Type 1} → statement M
+reaches_beyond_spec =
     tie.close
     (tie.spec
-    invariant-loop
-    decreases-loop
-    cast-n
-    loop-holds
-    mul-owns
-    array-read-owns
+    invariant-loop-i
+    decreases-loop-i
+    overflow_cast-n
+    loop-i-init
+    offset_bounds-routes-i
+    bounds-routes-i
     owns-requires
-    returns
-    add-i
-    loop-less
-    loop-again
-    returns-2)
+    returns-then-not-owns
+    overflow_add-i
+    loop-i-smaller
+    loop-i-preserved
+    returns)

@@ -10,5 +10,5 @@ returns : tie.Need-returns
 unfolding plain_entry
 returns c = record { fits = search rules; plain = refl }
 
-pub resolve-spec : {M : Type 1} → statement M
-resolve-spec = tie.close (tie.spec returns)
+pub resolve_spec : {M : Type 1} → statement M
+resolve_spec = tie.close (tie.spec returns)

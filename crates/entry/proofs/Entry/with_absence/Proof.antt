@@ -14,75 +14,70 @@ use borrow.Author.Rules.{rules}
 use Rattle.entry.proofs.Entry.with_absence.Statement.{statement}
 use Rattle.entry.proofs.Entry.with_absence.Tie as tie
 
-fresh : (c : tie.Else1) → has absence_key (absence_key (absence c.before.before.args.shard.0 c.before.before.args.key)) (absences_of c.before.before.args.self) ≡ false
+fresh : (c : tie.Else-is_read) → has absence_key (absence_key (absence c.args.shard.0 c.args.key)) (absences_of c.args.self) ≡ false
 unfolding plain_entry
-fresh c = sym c.before.is_read.ensures ∙ c.if1.false
+fresh c = sym c.is_read.ensures ∙ c.if-is_read.false
 
-abbrev from : tie.After-rank-absence → tie.Start
+abbrev from : tie.After-rank_absence-k → tie.Start
 from c = c.before.before.before.before.before.before
 
-is-read-requires : tie.Need-is-read-requires
-is-read-requires c κs = search rules
+is_read-requires : tie.Need-is_read-requires
+is_read-requires c κs = search rules
 
-returns : tie.Need-returns
+returns-then-is_read : tie.Need-returns-then-is_read
 unfolding plain_entry
-returns c =
-    let s = c.before.before in
-    let a = s.args in
-    let known = sym c.before.is_read.ensures ∙ c.if1.true in
-    record { fits = s.requires.fits; plain = rw (include-known absence_key (absence a.shard.0 a.key) (absences_of a.self) s.requires.rising known) }
+returns-then-is_read c =
+    let a = c.args in
+    let known = sym c.is_read.ensures ∙ c.if-is_read.true in
+    record { fits = c.requires.fits; plain = rw (include-known absence_key (absence a.shard.0 a.key) (absences_of a.self) c.requires.rising known) }
 
-cast-n : tie.Need-overflow-cast-n
-cast-n c = search rules
+overflow_cast-n : tie.Need-overflow_cast-n
+overflow_cast-n c = search rules
 
-rank-absence-requires : tie.Need-rank-absence-requires
-rank-absence-requires c κs = search rules
+rank_absence-k-requires : tie.Need-rank_absence-k-requires
+rank_absence-k-requires c κs = search rules
 
-room : (c : tie.After-rank-absence) → (c.rank-absence.result ≤ (from c).args.self.absences_len) × ((from c).args.self.absences_len < 8)
+room : (c : tie.After-rank_absence-k) → (c.rank_absence-k.result ≤ (from c).args.self.absences_len) × ((from c).args.self.absences_len < 8)
 unfolding plain_entry
 room c =
     let s = from c in
     let a = s.args in (
-      omega (arith, c.rank-absence.ensures, absence-rank a.self a.shard.0 a.key s.pre),
-      absence-room a.self a.shard.0 a.key s.pre (fresh c.before.before.before.before),
+      omega (arith, c.rank_absence-k.ensures, absence-rank a.self a.shard.0 a.key s.requires),
+      absence-room a.self a.shard.0 a.key s.requires (fresh c.before.before.before.before),
     )
 
-slice-aggregate-insert-at : tie.Need-slice-aggregate-insert-at
-slice-aggregate-insert-at c = search rules
+slice_bounds-insert_at-end : tie.Need-slice_bounds-insert_at-end
+slice_bounds-insert_at-end c = search rules
 
-insert-at-requires : tie.Need-insert-at-requires
-insert-at-requires c κs =
+insert_at-requires : tie.Need-insert_at-requires
+insert_at-requires c κs =
     let h = room c.before in
     (h.0, omega (arith, h.1, (from c.before).requires.fits.absent_shards))
 
-slice-aggregate-insert-at-2 : tie.Need-slice-aggregate-insert-at-2
-slice-aggregate-insert-at-2 c = search rules
+slice_bounds-insert_at-end-2 : tie.Need-slice_bounds-insert_at-end-2
+slice_bounds-insert_at-end-2 c = search rules
 
-insert-at-requires-2 : tie.Need-insert-at-requires-2
-insert-at-requires-2 c κs =
-    let k = c.before.before.before.before in
-    ((room k).0, omega (arith, (room k).1, (from k).requires.fits.absent_keys))
+insert_at-requires-2 : tie.Need-insert_at-requires-2
+insert_at-requires-2 c κs =
+    ((room c.before.before.before.before).0, omega (arith, (room c.before.before.before.before).1, (from c.before.before.before.before).requires.fits.absent_keys))
 
-add-e : tie.Need-overflow-add-e
-add-e c = let k = c.before.before.before.before.before.before.before in omega (arith, (room k).1)
+overflow_add-e : tie.Need-overflow_add-e
+overflow_add-e c = let k = c in omega (arith, (room k.before.before.before.before.before.before.before).1)
 
-returns-2 : tie.Need-returns-2
+returns : tie.Need-returns
 unfolding plain_entry
-returns-2 c =
-    let q = c.before.before in
-    let p = q.before.before.before in
-    let k = p.before.before in
-    let s = from k in
+returns c =
+    let s = from c.before.before.before.before.before.before.before in
     let a = s.args in
-    let new = fresh k.before.before.before.before in
-    let put = absence-put a.self a.shard.0 a.key s.pre _ _ _ new k.rank-absence.ensures p.insert-at.ensures q.insert-at2.ensures in
-    let f = s.pre.fits in
+    let new = fresh c.before.before.before.before.before.before.before.before.before.before.before in
+    let put = absence-put a.self a.shard.0 a.key s.requires _ _ _ new c.rank_absence-k.ensures c.insert_at.ensures c.insert_at-2.ensures in
+    let f = s.requires.fits in
     record {
       fits = record {
         routes_len = f.routes_len;
         core_len = f.core_len;
         edges_len = f.edges_len;
-        absences_len = omega (arith, (room k).1);
+        absences_len = omega (arith, (room c.before.before.before.before.before.before.before).1);
         marks_len = f.marks_len;
         few = f.few;
         routes = f.routes;
@@ -92,24 +87,24 @@ returns-2 c =
         kinds = f.kinds;
         sizes = f.sizes;
         to = f.to;
-        absent_shards = p.insert-at.ensures.size ∙ f.absent_shards;
-        absent_keys = q.insert-at2.ensures.size ∙ f.absent_keys;
+        absent_shards = c.insert_at.ensures.size ∙ f.absent_shards;
+        absent_keys = c.insert_at-2.ensures.size ∙ f.absent_keys;
         marks = f.marks;
       };
       plain = rw put;
     }
 
-pub with-absence-spec : {M : Type 1} → statement M
-with-absence-spec =
+pub with_absence_spec : {M : Type 1} → statement M
+with_absence_spec =
     tie.close
     (tie.spec
-    is-read-requires
-    returns
-    cast-n
-    rank-absence-requires
-    slice-aggregate-insert-at
-    insert-at-requires
-    slice-aggregate-insert-at-2
-    insert-at-requires-2
-    add-e
-    returns-2)
+    is_read-requires
+    returns-then-is_read
+    overflow_cast-n
+    rank_absence-k-requires
+    slice_bounds-insert_at-end
+    insert_at-requires
+    slice_bounds-insert_at-end-2
+    insert_at-requires-2
+    overflow_add-e
+    returns)

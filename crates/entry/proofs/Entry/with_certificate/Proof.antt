@@ -6,13 +6,13 @@ use borrow.Author.Rules.{rules}
 use Rattle.entry.proofs.Entry.with_certificate.Statement.{statement}
 use Rattle.entry.proofs.Entry.with_certificate.Tie as tie
 
-returns : tie.Need-returns
+returns-then-e-code : tie.Need-returns-then-e-code
 unfolding plain_entry
-returns c = record { fits = search rules; plain = rw (lt-ltb _ _ c.if1.true) }
+returns-then-e-code c = record { fits = search rules; plain = rw (lt-ltb _ _ c.if-e-code.true) }
 
-returns-2 : tie.Need-returns-2
+returns-else-e-code : tie.Need-returns-else-e-code
 unfolding plain_entry
-returns-2 c = record { fits = search rules; plain = rw (le-ltb _ _ c.if1.false) }
+returns-else-e-code c = record { fits = search rules; plain = rw (le-ltb _ _ c.if-e-code.false) }
 
-pub with-certificate-spec : {M : Type 1} → statement M
-with-certificate-spec = tie.close (tie.spec returns returns-2)
+pub with_certificate_spec : {M : Type 1} → statement M
+with_certificate_spec = tie.close (tie.spec returns-then-e-code returns-else-e-code)

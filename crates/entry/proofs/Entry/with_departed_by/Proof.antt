@@ -10,5 +10,5 @@ returns : tie.Need-returns
 unfolding plain_entry
 returns c = record { fits = search rules; plain = refl }
 
-pub with-departed-by-spec : {M : Type 1} → statement M
-with-departed-by-spec = tie.close (tie.spec returns)
+pub with_departed_by_spec : {M : Type 1} → statement M
+with_departed_by_spec = tie.close (tie.spec returns)

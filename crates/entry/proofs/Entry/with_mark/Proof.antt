@@ -10,48 +10,44 @@ use borrow.Author.Rules.{rules}
 use Rattle.entry.proofs.Entry.with_mark.Statement.{statement}
 use Rattle.entry.proofs.Entry.with_mark.Tie as tie
 
-is-settling-requires : tie.Need-is-settling-requires
-is-settling-requires c κs = search rules
+is_settling-requires : tie.Need-is_settling-requires
+is_settling-requires c κs = search rules
+
+returns-then-not-is_settling : tie.Need-returns-then-not-is_settling
+unfolding plain_entry
+returns-then-not-is_settling c =
+    let a = c.args in
+    let part : is_settling (plain_part a.self.part) ≡ false = sym c.is_settling.ensures ∙ not-true _ c.if-not-is_settling.true-raw in
+    record { fits = c.requires.0; plain = rw part }
+
+issues-requires : tie.Need-issues-requires
+issues-requires c κs = c.requires.0
+
+returns-then-not-issues : tie.Need-returns-then-not-issues
+unfolding plain_entry
+returns-then-not-issues c =
+    let a = c.args in
+    let part : is_settling (plain_part a.self.part) ≡ true = sym c.is_settling.ensures ∙ not-false _ c.if-not-is_settling.false-raw in
+    let known : issues a.local.0 a.r.0 (terms_of a.self) ≡ false = sym c.issues.ensures ∙ not-true _ c.if-not-issues.true-raw in
+    record { fits = c.requires.0; plain = rw (part, known) }
+
+put_mark-requires : tie.Need-put_mark-requires
+unfolding plain_entry
+put_mark-requires c κs =
+    let a = c.args in
+    let part : is_settling (plain_part a.self.part) ≡ true = sym c.is_settling.ensures ∙ not-false _ c.if-not-is_settling.false-raw in
+    let known : issues a.local.0 a.r.0 (terms_of a.self) ≡ true = sym c.issues.ensures ∙ not-false _ c.if-not-issues.false-raw in
+    issued-room a.self a.local.0 a.r.0 c.requires.0 c.requires.1 part known
 
 returns : tie.Need-returns
 unfolding plain_entry
 returns c =
-    let s = c.before.before in
-    let a = s.args in
-    let part : is_settling (plain_part a.self.part) ≡ false = sym c.before.is-settling.ensures ∙ not-true _ c.if1.true in
-    record { fits = s.requires.0; plain = rw part }
+    let a = c.args in
+    let part : is_settling (plain_part a.self.part) ≡ true = sym c.is_settling.ensures ∙ not-false _ c.if-not-is_settling.false-raw in
+    let known : issues a.local.0 a.r.0 (terms_of a.self) ≡ true = sym c.issues.ensures ∙ not-false _ c.if-not-issues.false-raw in
+    record { fits = c.put_mark.ensures.fits; plain = rw (part, known) c.put_mark.ensures.plain }
 
-issues-requires : tie.Need-issues-requires
-issues-requires c κs = c.before.before.requires.0
-
-returns-2 : tie.Need-returns-2
-unfolding plain_entry
-returns-2 c =
-    let s = c.before.before.before.before in
-    let a = s.args in
-    let part : is_settling (plain_part a.self.part) ≡ true = sym c.before.before.before.is-settling.ensures ∙ not-false _ c.before.before.if1.false in
-    let known : issues a.local.0 a.r.0 (terms_of a.self) ≡ false = sym c.before.issues.ensures ∙ not-true _ c.if2.true in
-    record { fits = s.requires.0; plain = rw (part, known) }
-
-put-mark-requires : tie.Need-put-mark-requires
-unfolding plain_entry
-put-mark-requires c κs =
-    let s = c.before.before.before.before in
-    let a = s.args in
-    let part : is_settling (plain_part a.self.part) ≡ true = sym c.before.before.before.is-settling.ensures ∙ not-false _ c.before.before.if1.false in
-    let known : issues a.local.0 a.r.0 (terms_of a.self) ≡ true = sym c.before.issues.ensures ∙ not-false _ c.if2.false in
-    issued-room a.self a.local.0 a.r.0 s.requires.0 s.requires.1 part known
-
-returns-3 : tie.Need-returns-3
-unfolding plain_entry
-returns-3 c =
-    let s = c.before.before.before.before.before in
-    let a = s.args in
-    let part : is_settling (plain_part a.self.part) ≡ true = sym c.before.before.before.before.is-settling.ensures ∙ not-false _ c.before.before.before.if1.false in
-    let known : issues a.local.0 a.r.0 (terms_of a.self) ≡ true = sym c.before.before.issues.ensures ∙ not-false _ c.before.if2.false in
-    record { fits = c.put-mark.ensures.fits; plain = rw (part, known) c.put-mark.ensures.plain }
-
-pub with-mark-spec : {M : Type 1} → statement M
-with-mark-spec =
+pub with_mark_spec : {M : Type 1} → statement M
+with_mark_spec =
     tie.close
-    (tie.spec is-settling-requires returns issues-requires returns-2 put-mark-requires returns-3)
+    (tie.spec is_settling-requires returns-then-not-is_settling issues-requires returns-then-not-issues put_mark-requires returns)
