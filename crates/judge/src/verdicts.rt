@@ -12,7 +12,7 @@ use entry::{Entry, Part};
 use types::{Shard, Time};
 
 // Reported holds what the report says of covered, 0 or 1; an entry that only falls is not reported.
-#[derive(Drop)]
+#[derive(Clone, Copy)]
 pub enum Verdict {
     Stands,
     Falls,

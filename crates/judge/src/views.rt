@@ -12,7 +12,7 @@ use store::departures::{Departure, Departures};
 use types::{Shard, Time};
 
 // Of each departure its shard, the leading zeros of the shard, its cut, and whether it is readable at the clock.
-#[derive(Drop)]
+#[derive(Clone, Copy)]
 pub struct View {
     pub shards: [u64; 32],
     pub zeros: [u32; 32],

@@ -1,5 +1,7 @@
 // The ledger: which transactions are owed an ending. Entries lie in slots and never move; the roster says in which slot each
 // transaction's entry lies, the issuer index which transactions issued a record, and the departures which shards have gone.
+#![tactic(auto)]
+
 use entry::Entry;
 use store::departures::Departures;
 use store::issuers::Issuers;

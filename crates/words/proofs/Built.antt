@@ -11,7 +11,7 @@ use lib.Seq.{get_or-drop}
 use borrow.Author.Tests.{eq-eqb, ne_eqb}
 use Rattle.lists.specs.Lists.{has, self, zip_by, part, cut}
 use Rattle.lists.proofs.Cuts.{cut-front}
-use Rattle.rules.specs.Plain.{Part, whole, leg, core, Entry}
+use Rattle.rules.specs.Plain.{Part, whole, leg, core}
 use Rattle.rules.specs.Words.{word, edge, with, route_count, routes_at, edge_count, edges_at, decomposed, destinations_at, core_in, froms, kinds, sizes, destinations, edges_in, admission_terms, group_terms}
 use Rattle.rules.specs.Entries.{entry, whole_terms, admitted}
 use Rattle.entry.specs.Entry as e

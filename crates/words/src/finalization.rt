@@ -9,7 +9,7 @@ use lists::slices::{part, size_at, word_at};
 use types::Transaction;
 
 // What a line says of a transaction: its decision code.
-#[derive(Drop)]
+#[derive(Clone, Copy)]
 pub struct Line {
     pub tx: Transaction,
     pub code: u64,

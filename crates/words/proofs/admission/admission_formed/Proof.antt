@@ -10,33 +10,29 @@ use Rattle.words.proofs.Forms.{counted_of, sized_of, uncounted, unsized, uncoded
 use Rattle.words.proofs.admission.admission_formed.Statement.{statement}
 use Rattle.words.proofs.admission.admission_formed.Tie as tie
 
-tests : (c : tie.Else2) → let w = c.before.before.before.before.before.args.words.now in (all_of (count_tests w) ≡ true) × (all_of (size_tests w) ≡ true)
+tests : (c : tie.Else-not-sized) → let w = c.args.words.now in (all_of (count_tests w) ≡ true) × (all_of (size_tests w) ≡ true)
 tests c =
-    let s = c.before in
-    let n = s.before.before in
-    (sym n.counted.ensures ∙ not-false _ s.before.if1.false, sym s.sized.ensures ∙ not-false _ c.if2.false)
+    (sym c.counted.ensures ∙ not-false _ c.if-not-counted.false-raw, sym c.sized.ensures ∙ not-false _ c.if-not-sized.false-raw)
 
-is-sized : (c : tie.Else2) → Sized c.before.before.before.before.before.args.words.now
+is-sized : (c : tie.Else-not-sized) → Sized c.args.words.now
 is-sized c =
-    let w = c.before.before.before.before.before.args.words.now in
+    let w = c.args.words.now in
     sized_of w (counted_of w (tests c).0) (tests c).1
 
 counted-requires : tie.Need-counted-requires
 counted-requires c κs = search rules
 
-returns : tie.Need-returns
-returns c = uncounted c.before.before.before.args.words.now (sym c.before.counted.ensures ∙ not-true _ c.if1.true)
+returns-then-not-counted : tie.Need-returns-then-not-counted
+returns-then-not-counted c = uncounted c.args.words.now (sym c.counted.ensures ∙ not-true _ c.if-not-counted.true-raw)
 
 sized-requires : tie.Need-sized-requires
 sized-requires c κs =
-    let w = c.before.before.before.args.words.now in
-    counted_of w (sym c.before.counted.ensures ∙ not-false _ c.if1.false)
+    let w = c.args.words.now in
+    counted_of w (sym c.counted.ensures ∙ not-false _ c.if-not-counted.false-raw)
 
-returns-2 : tie.Need-returns-2
-returns-2 c =
-    let s = c.before in
-    let n = s.before.before in
-    unsized n.before.before.args.words.now (sym n.counted.ensures ∙ not-false _ s.before.if1.false) (sym s.sized.ensures ∙ not-true _ c.if2.true)
+returns-then-not-sized : tie.Need-returns-then-not-sized
+returns-then-not-sized c =
+    unsized c.args.words.now (sym c.counted.ensures ∙ not-false _ c.if-not-counted.false-raw) (sym c.sized.ensures ∙ not-true _ c.if-not-sized.true-raw)
 
 coded-requires : tie.Need-coded-requires
 coded-requires c κs = is-sized c
@@ -44,28 +40,26 @@ coded-requires c κs = is-sized c
 ordered-requires : tie.Need-ordered-requires
 ordered-requires c κs = (is-sized c.before.before, (tests c.before.before).1)
 
-returns-3 : tie.Need-returns-3
-returns-3 c =
-    let k = c.before.before in
-    let t = tests k.before in
-    the_order k.before.before.before.before.before.before.args.words.now c.ordered.result t.0 t.1 (sym k.coded.ensures ∙ c.before.if3.true)
+returns-then-coded : tie.Need-returns-then-coded
+returns-then-coded c =
+    let t = tests c.before.before.before in
+    the_order c.args.words.now c.ordered.result t.0 t.1 (sym c.coded.ensures ∙ c.if-coded.true)
     c.ordered.ensures
 
-returns-4 : tie.Need-returns-4
-returns-4 c =
-    let k = c.before in
-    let t = tests k.before in
-    uncoded k.before.before.before.before.before.before.args.words.now t.0 t.1 (sym k.coded.ensures ∙ c.if3.false)
+returns-else-coded : tie.Need-returns-else-coded
+returns-else-coded c =
+    let t = tests c.before.before in
+    uncoded c.args.words.now t.0 t.1 (sym c.coded.ensures ∙ c.if-coded.false)
 
-pub admission-formed-spec : {M : Type 1} → statement M
-admission-formed-spec =
+pub admission_formed_spec : {M : Type 1} → statement M
+admission_formed_spec =
     tie.close
     (tie.spec
     counted-requires
-    returns
+    returns-then-not-counted
     sized-requires
-    returns-2
+    returns-then-not-sized
     coded-requires
     ordered-requires
-    returns-3
-    returns-4)
+    returns-then-coded
+    returns-else-coded)

@@ -12,67 +12,60 @@ use Rattle.words.proofs.Forms.{formed_of}
 use Rattle.words.proofs.admission.admission_placed.Statement.{statement}
 use Rattle.words.proofs.admission.admission_placed.Tie as tie
 
-core-in-requires : tie.Need-core-in-requires
-core-in-requires c κs = (formed_of c.before.args.words.now c.before.requires).sized
+core_in-requires : tie.Need-core_in-requires
+core_in-requires c κs = (formed_of c.before.args.words.now c.before.requires).sized
 
-all-shards-requires : tie.Need-all-shards-requires
-all-shards-requires c κs = search rules
+all_shards-requires : tie.Need-all_shards-requires
+all_shards-requires c κs = search rules
 
-returns : tie.Need-returns
+returns-then-not-all_shards : tie.Need-returns-then-not-all_shards
 unfolding admission_placed
-returns c =
-    let t = c.before in
-    let w = t.before.before.before.args.words.now in
+returns-then-not-all_shards c =
+    let w = c.args.words.now in
     first_fails (all is_shard (core_in w)) (all is_shard (froms w)) (all is_shard (drop (destinations_at w) w))
-    (ap (all is_shard) (sym t.before.core-in.ensures) ∙ sym t.all-shards.ensures ∙ not-true _ c.if1.true)
+    (ap (all is_shard) (sym c.core_in.ensures) ∙ sym c.all_shards.ensures ∙ not-true _ c.if-not-all_shards.true-raw)
 
-froms-in-requires : tie.Need-froms-in-requires
-froms-in-requires c κs =
-    let a = c.before.before.before.before in
-    (formed_of a.args.words.now a.requires).sized
+froms_in-requires : tie.Need-froms_in-requires
+froms_in-requires c κs =
+    (formed_of c.args.words.now c.requires).sized
 
-all-shards-requires-2 : tie.Need-all-shards-requires-2
-all-shards-requires-2 c κs = search rules
+all_shards-requires-2 : tie.Need-all_shards-requires-2
+all_shards-requires-2 c κs = search rules
 
-destinations-in-requires : tie.Need-destinations-in-requires
-destinations-in-requires c κs =
-    let a = c.before.before.before.before.before.before.before in
-    (formed_of a.args.words.now a.requires).sized
+destinations_in-requires : tie.Need-destinations_in-requires
+destinations_in-requires c κs =
+    (formed_of c.args.words.now c.requires).sized
 
-all-shards-requires-3 : tie.Need-all-shards-requires-3
-all-shards-requires-3 c κs = search rules
+all_shards-requires-then-all_shards : tie.Need-all_shards-requires-then-all_shards
+all_shards-requires-then-all_shards c κs = search rules
 
-returns-2 : tie.Need-returns-2
+returns-then-all_shards : tie.Need-returns-then-all_shards
 unfolding admission_placed
-returns-2 c =
-    let u = c.before.before.before in
-    let t = u.before.before.before in
-    let w = t.before.before.before.args.words.now in
-    third_says (all is_shard (core_in w)) (all is_shard (froms w)) (all is_shard (drop (destinations_at w) w)) c.all-shards3.result
-    (ap (all is_shard) (sym t.before.core-in.ensures) ∙ sym t.all-shards.ensures ∙ not-false _ u.before.before.if1.false)
-    (ap (all is_shard) (sym u.before.froms-in.ensures) ∙ sym u.all-shards2.ensures ∙ c.before.before.if2.true)
-    (c.all-shards3.ensures ∙ ap (all is_shard) c.before.destinations-in.ensures)
+returns-then-all_shards c =
+    let w = c.args.words.now in
+    third_says (all is_shard (core_in w)) (all is_shard (froms w)) (all is_shard (drop (destinations_at w) w)) c.all_shards-then-all_shards.result
+    (ap (all is_shard) (sym c.core_in.ensures) ∙ sym c.all_shards.ensures ∙ not-false _ c.if-not-all_shards.false-raw)
+    (ap (all is_shard) (sym c.froms_in.ensures) ∙ sym c.all_shards-2.ensures ∙ c.if-all_shards.true)
+    (c.all_shards-then-all_shards.ensures ∙ ap (all is_shard) c.destinations_in.ensures)
 
-returns-3 : tie.Need-returns-3
+returns-else-all_shards : tie.Need-returns-else-all_shards
 unfolding admission_placed
-returns-3 c =
-    let u = c.before in
-    let t = u.before.before.before in
-    let w = t.before.before.before.args.words.now in
+returns-else-all_shards c =
+    let w = c.args.words.now in
     second_fails (all is_shard (core_in w)) (all is_shard (froms w)) (all is_shard (drop (destinations_at w) w))
-    (ap (all is_shard) (sym t.before.core-in.ensures) ∙ sym t.all-shards.ensures ∙ not-false _ u.before.before.if1.false)
-    (ap (all is_shard) (sym u.before.froms-in.ensures) ∙ sym u.all-shards2.ensures ∙ c.if2.false)
+    (ap (all is_shard) (sym c.core_in.ensures) ∙ sym c.all_shards.ensures ∙ not-false _ c.if-not-all_shards.false-raw)
+    (ap (all is_shard) (sym c.froms_in.ensures) ∙ sym c.all_shards-2.ensures ∙ c.if-all_shards.false)
 
-pub admission-placed-spec : {M : Type 1} → statement M
-admission-placed-spec =
+pub admission_placed_spec : {M : Type 1} → statement M
+admission_placed_spec =
     tie.close
     (tie.spec
-    core-in-requires
-    all-shards-requires
-    returns
-    froms-in-requires
-    all-shards-requires-2
-    destinations-in-requires
-    all-shards-requires-3
-    returns-2
-    returns-3)
+    core_in-requires
+    all_shards-requires
+    returns-then-not-all_shards
+    froms_in-requires
+    all_shards-requires-2
+    destinations_in-requires
+    all_shards-requires-then-all_shards
+    returns-then-all_shards
+    returns-else-all_shards)

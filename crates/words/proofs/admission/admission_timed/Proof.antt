@@ -9,63 +9,58 @@ use borrow.Author.Tests.{not-true, not-false}
 use Rattle.words.proofs.admission.admission_timed.Statement.{statement}
 use Rattle.words.proofs.admission.admission_timed.Tie as tie
 
-word-at-requires : tie.Need-word-at-requires
-word-at-requires c κs = search rules
+word_at-requires : tie.Need-word_at-requires
+word_at-requires c κs = search rules
 
-is-time-requires : tie.Need-is-time-requires
-is-time-requires c κs = search rules
+is_time-requires : tie.Need-is_time-requires
+is_time-requires c κs = search rules
 
-returns : tie.Need-returns
+returns-then-not-is_time : tie.Need-returns-then-not-is_time
 unfolding admission_timed
-returns c =
-    let t = c.before in
-    let w = t.before.before.before.args.words.now in
+returns-then-not-is_time c =
+    let w = c.args.words.now in
     first_fails (is_time (word 4 w)) (is_time (word 5 w)) (is_time (word 6 w))
-    (ap is_time (sym t.before.word_at.ensures) ∙ sym t.is-time.ensures ∙ not-true _ c.if1.true)
+    (ap is_time (sym c.word_at.ensures) ∙ sym c.is_time.ensures ∙ not-true _ c.if-not-is_time.true-raw)
 
-word-at-requires-2 : tie.Need-word-at-requires-2
-word-at-requires-2 c κs = search rules
+word_at-requires-2 : tie.Need-word_at-requires-2
+word_at-requires-2 c κs = search rules
 
-is-time-requires-2 : tie.Need-is-time-requires-2
-is-time-requires-2 c κs = search rules
+is_time-requires-2 : tie.Need-is_time-requires-2
+is_time-requires-2 c κs = search rules
 
-word-at-requires-3 : tie.Need-word-at-requires-3
-word-at-requires-3 c κs = search rules
+word_at-requires-then-is_time : tie.Need-word_at-requires-then-is_time
+word_at-requires-then-is_time c κs = search rules
 
-is-time-requires-3 : tie.Need-is-time-requires-3
-is-time-requires-3 c κs = search rules
+is_time-requires-then-is_time : tie.Need-is_time-requires-then-is_time
+is_time-requires-then-is_time c κs = search rules
 
-returns-2 : tie.Need-returns-2
+returns-then-is_time : tie.Need-returns-then-is_time
 unfolding admission_timed
-returns-2 c =
-    let u = c.before.before.before in
-    let t = u.before.before.before in
-    let w = t.before.before.before.args.words.now in
-    third_says (is_time (word 4 w)) (is_time (word 5 w)) (is_time (word 6 w)) c.is-time3.result
-    (ap is_time (sym t.before.word_at.ensures) ∙ sym t.is-time.ensures ∙ not-false _ u.before.before.if1.false)
-    (ap is_time (sym u.before.word-at2.ensures) ∙ sym u.is-time2.ensures ∙ c.before.before.if2.true)
-    (c.is-time3.ensures ∙ ap is_time c.before.word-at3.ensures)
+returns-then-is_time c =
+    let w = c.args.words.now in
+    third_says (is_time (word 4 w)) (is_time (word 5 w)) (is_time (word 6 w)) c.is_time-then-is_time.result
+    (ap is_time (sym c.word_at.ensures) ∙ sym c.is_time.ensures ∙ not-false _ c.if-not-is_time.false-raw)
+    (ap is_time (sym c.word_at-2.ensures) ∙ sym c.is_time-2.ensures ∙ c.if-is_time.true)
+    (c.is_time-then-is_time.ensures ∙ ap is_time c.word_at-then-is_time.ensures)
 
-returns-3 : tie.Need-returns-3
+returns-else-is_time : tie.Need-returns-else-is_time
 unfolding admission_timed
-returns-3 c =
-    let u = c.before in
-    let t = u.before.before.before in
-    let w = t.before.before.before.args.words.now in
+returns-else-is_time c =
+    let w = c.args.words.now in
     second_fails (is_time (word 4 w)) (is_time (word 5 w)) (is_time (word 6 w))
-    (ap is_time (sym t.before.word_at.ensures) ∙ sym t.is-time.ensures ∙ not-false _ u.before.before.if1.false)
-    (ap is_time (sym u.before.word-at2.ensures) ∙ sym u.is-time2.ensures ∙ c.if2.false)
+    (ap is_time (sym c.word_at.ensures) ∙ sym c.is_time.ensures ∙ not-false _ c.if-not-is_time.false-raw)
+    (ap is_time (sym c.word_at-2.ensures) ∙ sym c.is_time-2.ensures ∙ c.if-is_time.false)
 
-pub admission-timed-spec : {M : Type 1} → statement M
-admission-timed-spec =
+pub admission_timed_spec : {M : Type 1} → statement M
+admission_timed_spec =
     tie.close
     (tie.spec
-    word-at-requires
-    is-time-requires
-    returns
-    word-at-requires-2
-    is-time-requires-2
-    word-at-requires-3
-    is-time-requires-3
-    returns-2
-    returns-3)
+    word_at-requires
+    is_time-requires
+    returns-then-not-is_time
+    word_at-requires-2
+    is_time-requires-2
+    word_at-requires-then-is_time
+    is_time-requires-then-is_time
+    returns-then-is_time
+    returns-else-is_time)

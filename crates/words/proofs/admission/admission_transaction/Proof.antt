@@ -12,5 +12,5 @@ returns : tie.Need-returns
 unfolding admission_terms
 returns c = c.read.ensures
 
-pub admission-transaction-spec : {M : Type 1} → statement M
-admission-transaction-spec = tie.close (tie.spec read-requires returns)
+pub admission_transaction_spec : {M : Type 1} → statement M
+admission_transaction_spec = tie.close (tie.spec read-requires returns)

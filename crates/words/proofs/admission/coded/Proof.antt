@@ -6,22 +6,22 @@ use Rattle.lists.proofs.Tests.{and_true}
 use Rattle.words.proofs.admission.coded.Statement.{statement}
 use Rattle.words.proofs.admission.coded.Tie as tie
 
-shared-slice-read-if1 : tie.Need-shared-slice-read-if1
-shared-slice-read-if1 c = search rules
+bounds-words-8 : tie.Need-bounds-words-8
+bounds-words-8 c = search rules
+
+returns-then-words-gt1 : tie.Need-returns-then-words-gt1
+returns-then-words-gt1 c = simp (lt-leb _ 1 c.if-words-gt1.true)
+
+kinds_in-requires : tie.Need-kinds_in-requires
+kinds_in-requires c κs = search rules
+
+all_within-requires : tie.Need-all_within-requires
+all_within-requires c κs = search rules
 
 returns : tie.Need-returns
-returns c = simp (lt-leb _ 1 c.if1.true)
+returns c = rw (c.all_within.ensures, c.kinds_in.ensures) (simp (le-leb _ 1 c.if-words-gt1.false, and_true))
 
-kinds-in-requires : tie.Need-kinds-in-requires
-kinds-in-requires c κs = search rules
-
-all-within-requires : tie.Need-all-within-requires
-all-within-requires c κs = search rules
-
-returns-2 : tie.Need-returns-2
-returns-2 c = rw (c.all-within.ensures, c.before.kinds-in.ensures) (simp (le-leb _ 1 c.before.before.if1.false, and_true))
-
-pub coded-spec : {M : Type 1} → statement M
-coded-spec =
+pub coded_spec : {M : Type 1} → statement M
+coded_spec =
     tie.close
-    (tie.spec shared-slice-read-if1 returns kinds-in-requires all-within-requires returns-2)
+    (tie.spec bounds-words-8 returns-then-words-gt1 kinds_in-requires all_within-requires returns)

@@ -13,47 +13,42 @@ use Rattle.words.proofs.Forms.{sized_exact}
 use Rattle.words.proofs.admission.ordered.Statement.{statement}
 use Rattle.words.proofs.admission.ordered.Tie as tie
 
-core-in-requires : tie.Need-core-in-requires
-core-in-requires c κs = search rules
+core_in-requires : tie.Need-core_in-requires
+core_in-requires c κs = search rules
 
 rises-requires : tie.Need-rises-requires
 rises-requires c κs = search rules
 
-sizes-in-requires : tie.Need-sizes-in-requires
-sizes-in-requires c κs = search rules
+sizes_in-requires : tie.Need-sizes_in-requires
+sizes_in-requires c κs = search rules
 
-destinations-in-requires : tie.Need-destinations-in-requires
-destinations-in-requires c κs = search rules
+destinations_in-requires : tie.Need-destinations_in-requires
+destinations_in-requires c κs = search rules
 
-lists-rise-requires : tie.Need-lists-rise-requires
-lists-rise-requires c κs =
-    let s = c.before in
-    let a = s.before.before.before.before.before in
-    let w = a.args.words.now in
-    omega (arith, ap (total self) s.sizes-in.ensures, ap length c.destinations-in.ensures, length-drop (destinations_at w) w, sized_exact w a.requires.1)
+lists_rise-requires : tie.Need-lists_rise-requires
+lists_rise-requires c κs =
+    let w = c.args.words.now in
+    omega (arith, ap (total self) c.sizes_in.ensures, ap length c.destinations_in.ensures, length-drop (destinations_at w) w, sized_exact w c.requires.1)
 
-returns : tie.Need-returns
-returns c =
-    let s = c.before.before in
-    let r = s.before.before in
-    let w = r.before.before.before.args.words.now in
-    rw (c.lists-rise.ensures, s.sizes-in.ensures, c.before.destinations-in.ensures)
-    (sym (goes (ascending self (core_in w)) _ (ap (ascending self) (sym r.before.core-in.ensures) ∙ sym r.rises.ensures ∙ s.before.if1.true) ∙ and_true _))
+returns-then-rises : tie.Need-returns-then-rises
+returns-then-rises c =
+    let w = c.args.words.now in
+    rw (c.lists_rise.ensures, c.sizes_in.ensures, c.destinations_in.ensures)
+    (sym (goes (ascending self (core_in w)) _ (ap (ascending self) (sym c.core_in.ensures) ∙ sym c.rises.ensures ∙ c.if-rises.true) ∙ and_true _))
 
-returns-2 : tie.Need-returns-2
-returns-2 c =
-    let r = c.before in
-    let w = r.before.before.before.args.words.now in
-    sym (stops (ascending self (core_in w)) _ (ap (ascending self) (sym r.before.core-in.ensures) ∙ sym r.rises.ensures ∙ c.if1.false))
+returns-else-rises : tie.Need-returns-else-rises
+returns-else-rises c =
+    let w = c.args.words.now in
+    sym (stops (ascending self (core_in w)) _ (ap (ascending self) (sym c.core_in.ensures) ∙ sym c.rises.ensures ∙ c.if-rises.false))
 
-pub ordered-spec : {M : Type 1} → statement M
-ordered-spec =
+pub ordered_spec : {M : Type 1} → statement M
+ordered_spec =
     tie.close
     (tie.spec
-    core-in-requires
+    core_in-requires
     rises-requires
-    sizes-in-requires
-    destinations-in-requires
-    lists-rise-requires
-    returns
-    returns-2)
+    sizes_in-requires
+    destinations_in-requires
+    lists_rise-requires
+    returns-then-rises
+    returns-else-rises)

@@ -12,60 +12,60 @@ use Rattle.lists.proofs.Cuts.{all_hit, all_miss, all_end}
 use Rattle.words.proofs.finalization.all_decisions.Statement.{statement}
 use Rattle.words.proofs.finalization.all_decisions.Tie as tie
 
-abbrev invariant-loop : tie.invariant-loop
-invariant-loop s i₀ i = (i ≤ length s) × (all (λ d. leb 1 d && leb d 3) (drop i s) ≡ all (λ d. leb 1 d && leb d 3) s)
+abbrev invariant-loop-i : tie.invariant-loop-i
+invariant-loop-i s i₀ i = (i ≤ length s) × (all (λ d. leb 1 d && leb d 3) (drop i s) ≡ all (λ d. leb 1 d && leb d 3) s)
 
-abbrev decreases-loop : tie.decreases-loop
-decreases-loop s i₀ i = length s - i
+abbrev decreases-loop-i : tie.decreases-loop-i
+decreases-loop-i s i₀ i = length s - i
 
-loop-holds : tie.Need-loop-init invariant-loop decreases-loop
-loop-holds c = search rules
+loop-i-init : tie.Need-loop-i-init invariant-loop-i decreases-loop-i
+loop-i-init c = search rules
 
-mul-is-decision : tie.Need-overflow-mul-is-decision invariant-loop decreases-loop
-mul-is-decision c = search rules
+offset_bounds-s-i : tie.Need-offset_bounds-s-i invariant-loop-i decreases-loop-i
+offset_bounds-s-i c = search rules
 
-shared-slice-read-is-decision : tie.Need-shared-slice-read-is-decision invariant-loop decreases-loop
-shared-slice-read-is-decision c = search rules
+bounds-s-i : tie.Need-bounds-s-i invariant-loop-i decreases-loop-i
+bounds-s-i c = search rules
 
-is-decision-requires : tie.Need-is-decision-requires invariant-loop decreases-loop
-is-decision-requires c κs = search rules
+is_decision-requires : tie.Need-is_decision-requires invariant-loop-i decreases-loop-i
+is_decision-requires c κs = search rules
 
-returns : tie.Need-returns invariant-loop decreases-loop
+returns-then-not-is_decision : tie.Need-returns-then-not-is_decision invariant-loop-i decreases-loop-i
+returns-then-not-is_decision c =
+    let l = c.loop-i in
+    let a = c.args in
+    sym (sym l.invariant.1 ∙ all_miss (λ d. leb 1 d && leb d 3) 0 a.s.now l.i (search rules) (sym c.is_decision.ensures ∙ not-true _ c.if-not-is_decision.true-raw))
+
+overflow_add-i : tie.Need-overflow_add-i invariant-loop-i decreases-loop-i
+overflow_add-i c = search rules
+
+loop-i-smaller : tie.Need-loop-i-smaller invariant-loop-i decreases-loop-i
+loop-i-smaller c = search rules
+
+loop-i-preserved : tie.Need-loop-i-preserved invariant-loop-i decreases-loop-i
+loop-i-preserved c =
+    let l = c.loop-i in
+    let a = c.args in
+    (search rules, all_hit (λ d. leb 1 d && leb d 3) 0 a.s.now l.i (search rules) (sym c.is_decision.ensures ∙ not-false _ c.if-not-is_decision.false-raw) ∙ l.invariant.1)
+
+returns : tie.Need-returns invariant-loop-i decreases-loop-i
 returns c =
-    let l = c.before.before.before.before.loop in
-    let a = c.before.before.before.before.before.before.args in
-    sym (sym l.invariant.1 ∙ all_miss (λ d. leb 1 d && leb d 3) 0 a.s.now l.i (search rules) (sym c.before.is-decision.ensures ∙ not-true _ c.if1.true))
+    let l = c.loop-i in
+    let a = c.args in
+    sym (sym l.invariant.1 ∙ all_end (λ d. leb 1 d && leb d 3) a.s.now l.i c.loop-i-test.false)
 
-add-i : tie.Need-overflow-add-i invariant-loop decreases-loop
-add-i c = search rules
-
-loop-less : tie.Need-loop-smaller invariant-loop decreases-loop
-loop-less c = search rules
-
-loop-again : tie.Need-loop-preserved invariant-loop decreases-loop
-loop-again c =
-    let l = c.before.before.before.before.loop in
-    let a = c.before.before.before.before.before.before.args in
-    (search rules, all_hit (λ d. leb 1 d && leb d 3) 0 a.s.now l.i (search rules) (sym c.before.is-decision.ensures ∙ not-false _ c.if1.false) ∙ l.invariant.1)
-
-returns-2 : tie.Need-returns-2 invariant-loop decreases-loop
-returns-2 c =
-    let l = c.before.loop in
-    let a = c.before.before.before.args in
-    sym (sym l.invariant.1 ∙ all_end (λ d. leb 1 d && leb d 3) a.s.now l.i c.loop-test.false)
-
-pub all-decisions-spec : {M : Type 1} → statement M
-all-decisions-spec =
+pub all_decisions_spec : {M : Type 1} → statement M
+all_decisions_spec =
     tie.close
     (tie.spec
-    invariant-loop
-    decreases-loop
-    loop-holds
-    mul-is-decision
-    shared-slice-read-is-decision
-    is-decision-requires
-    returns
-    add-i
-    loop-less
-    loop-again
-    returns-2)
+    invariant-loop-i
+    decreases-loop-i
+    loop-i-init
+    offset_bounds-s-i
+    bounds-s-i
+    is_decision-requires
+    returns-then-not-is_decision
+    overflow_add-i
+    loop-i-smaller
+    loop-i-preserved
+    returns)

@@ -11,79 +11,72 @@ use Rattle.words.proofs.Lines.{finalized, the_decisions}
 use Rattle.words.proofs.finalization.finalization_formed.Statement.{statement}
 use Rattle.words.proofs.finalization.finalization_formed.Tie as tie
 
-returns : tie.Need-returns
-returns c =
-    let w = c.before.before.args.words.now in
-    fails (finalization_formed w) (λ f. omega (arith, (finalized w f).head, c.if1.true))
+returns-then-words-lt2 : tie.Need-returns-then-words-lt2
+returns-then-words-lt2 c =
+    let w = c.args.words.now in
+    fails (finalization_formed w) (λ f. omega (arith, (finalized w f).head, c.if-words-lt2.true))
 
-size-at-requires : tie.Need-size-at-requires
-size-at-requires c κs = search rules
+size_at-n-requires : tie.Need-size_at-n-requires
+size_at-n-requires c κs = search rules
 
-returns-2 : tie.Need-returns-2
-returns-2 c =
-    let n = c.before in
-    let w = n.before.before.before.args.words.now in
-    fails (finalization_formed w) (λ f. omega (arith, (finalized w f).few, n.size-at.ensures, c.if2.true))
+returns-then-n-gt48 : tie.Need-returns-then-n-gt48
+returns-then-n-gt48 c =
+    let w = c.args.words.now in
+    fails (finalization_formed w) (λ f. omega (arith, (finalized w f).few, c.size_at-n.ensures, c.if-n-gt48.true))
 
-size-at-requires-2 : tie.Need-size-at-requires-2
-size-at-requires-2 c κs = search rules
+size_at-m-requires : tie.Need-size_at-m-requires
+size_at-m-requires c κs = search rules
 
-returns-3 : tie.Need-returns-3
-returns-3 c =
-    let m = c.before in
-    let w = m.before.before.before.before.before.args.words.now in
-    fails (finalization_formed w) (λ f. omega (arith, (finalized w f).decided, m.size-at2.ensures, c.if3.true))
+returns-then-m-gt48 : tie.Need-returns-then-m-gt48
+returns-then-m-gt48 c =
+    let w = c.args.words.now in
+    fails (finalization_formed w) (λ f. omega (arith, (finalized w f).decided, c.size_at-m.ensures, c.if-m-gt48.true))
 
-add-if4 : tie.Need-overflow-add-if4
-add-if4 c = search rules
+overflow_add-n : tie.Need-overflow_add-n
+overflow_add-n c = search rules
 
-add-if4-2 : tie.Need-overflow-add-if4-2
-add-if4-2 c = search rules
+overflow_add-n-2 : tie.Need-overflow_add-n-2
+overflow_add-n-2 c = search rules
 
-add-if4-3 : tie.Need-overflow-add-if4-3
-add-if4-3 c = search rules
+overflow_add-n-3 : tie.Need-overflow_add-n-3
+overflow_add-n-3 c = search rules
 
-returns-4 : tie.Need-returns-4
-returns-4 c =
-    let m = c.before.before in
-    let n = m.before.before in
-    let w = n.before.before.before.args.words.now in
-    fails (finalization_formed w) (λ f. c.if4.true (omega (arith, (finalized w f).exact, n.size-at.ensures, m.size-at2.ensures)))
+returns-then-words-n : tie.Need-returns-then-words-n
+returns-then-words-n c =
+    let w = c.args.words.now in
+    fails (finalization_formed w) (λ f. c.if-words-n.true (omega (arith, (finalized w f).exact, c.size_at-n.ensures, c.size_at-m.ensures)))
 
-add-part : tie.Need-overflow-add-part
-add-part c = search rules
+overflow_add-n-4 : tie.Need-overflow_add-n-4
+overflow_add-n-4 c = search rules
 
 part-requires : tie.Need-part-requires
 part-requires c κs = search rules
 
-all-decisions-requires : tie.Need-all-decisions-requires
-all-decisions-requires c κs = search rules
+all_decisions-requires : tie.Need-all_decisions-requires
+all_decisions-requires c κs = search rules
 
-returns-5 : tie.Need-returns-5
-returns-5 c =
-    let p = c.before in
-    let m = p.before.before.before in
-    let n = m.before.before in
-    let w = n.before.before.before.args.words.now in
-    c.all-decisions.ensures
-    ∙ the_decisions w p.part.result.now n.before.if1.false (omega (arith, n.size-at.ensures, m.before.if2.false))
-    (omega (arith, m.size-at2.ensures, p.before.before.if3.false))
-    (omega (arith, n.size-at.ensures, m.size-at2.ensures, p.before.if4.false)) (p.part.ensures ∙ ap (λ k. take k (drop (2 + k) w)) n.size-at.ensures)
+returns : tie.Need-returns
+returns c =
+    let w = c.args.words.now in
+    c.all_decisions.ensures
+    ∙ the_decisions w c.part.result.now c.if-words-lt2.false (omega (arith, c.size_at-n.ensures, c.if-n-gt48.false))
+    (omega (arith, c.size_at-m.ensures, c.if-m-gt48.false))
+    (omega (arith, c.size_at-n.ensures, c.size_at-m.ensures, c.if-words-n.false)) (c.part.ensures ∙ ap (λ k. take k (drop (2 + k) w)) c.size_at-n.ensures)
 
-pub finalization-formed-spec : {M : Type 1} → statement M
-finalization-formed-spec =
+pub finalization_formed_spec : {M : Type 1} → statement M
+finalization_formed_spec =
     tie.close
     (tie.spec
-    returns
-    size-at-requires
-    returns-2
-    size-at-requires-2
-    returns-3
-    add-if4
-    add-if4-2
-    add-if4-3
-    returns-4
-    add-part
+    returns-then-words-lt2
+    size_at-n-requires
+    returns-then-n-gt48
+    size_at-m-requires
+    returns-then-m-gt48
+    overflow_add-n
+    overflow_add-n-2
+    overflow_add-n-3
+    returns-then-words-n
+    overflow_add-n-4
     part-requires
-    all-decisions-requires
-    returns-5)
+    all_decisions-requires
+    returns)

@@ -11,46 +11,42 @@ use borrow.Author.Rules.{rules}
 use Rattle.words.proofs.finalization.is_deciding.Statement.{statement}
 use Rattle.words.proofs.finalization.is_deciding.Tie as tie
 
-size-at-requires : tie.Need-size-at-requires
-size-at-requires c κs = search rules
+size_at-n-requires : tie.Need-size_at-n-requires
+size_at-n-requires c κs = search rules
 
-size-at-requires-2 : tie.Need-size-at-requires-2
-size-at-requires-2 c κs = search rules
+size_at-m-requires : tie.Need-size_at-m-requires
+size_at-m-requires c κs = search rules
 
-add-part : tie.Need-overflow-add-part
-add-part c =
-    let a = c.before.before.before in
-    omega (arith, c.before.size-at.ensures, finalized a.args.words.now a.requires)
+overflow_add-n : tie.Need-overflow_add-n
+overflow_add-n c =
+    omega (arith, c.size_at-n.ensures, finalized c.args.words.now c.requires)
 
-add-part-2 : tie.Need-overflow-add-part-2
-add-part-2 c =
-    let a = c.before.before.before in
-    omega (arith, c.before.size-at.ensures, finalized a.args.words.now a.requires)
+overflow_add-n-2 : tie.Need-overflow_add-n-2
+overflow_add-n-2 c =
+    omega (arith, c.size_at-n.ensures, finalized c.args.words.now c.requires)
 
 part-requires : tie.Need-part-requires
 part-requires c κs =
-    let a = c.before.before.before in
-    omega (arith, c.before.size-at.ensures, c.size-at2.ensures, finalized a.args.words.now a.requires)
+    omega (arith, c.size_at-n.ensures, c.size_at-m.ensures, finalized c.args.words.now c.requires)
 
-is-among-requires : tie.Need-is-among-requires
-is-among-requires c κs = search rules
+is_among-requires : tie.Need-is_among-requires
+is_among-requires c κs = search rules
 
 returns : tie.Need-returns
 returns c =
-    let a = c.before.before.before.before.before in
-    let w = a.args.words.now in
-    let same : part (2 + c.before.before.before.size-at.result + c.before.before.before.size-at.result) c.before.before.size-at2.result w ≡ deciding w =
-    rw (c.before.before.before.size-at.ensures, c.before.before.size-at2.ensures) (sym (deciding-is w)) in
-    c.is_among.ensures ∙ ap (has self (number_of a.args.tx)) (c.before.part.ensures ∙ same)
+    let w = c.args.words.now in
+    let same : part (2 + c.size_at-n.result + c.size_at-n.result) c.size_at-m.result w ≡ deciding w =
+    rw (c.size_at-n.ensures, c.size_at-m.ensures) (sym (deciding-is w)) in
+    c.is_among.ensures ∙ ap (has self (number_of c.args.tx)) (c.part.ensures ∙ same)
 
-pub is-deciding-spec : {M : Type 1} → statement M
-is-deciding-spec =
+pub is_deciding_spec : {M : Type 1} → statement M
+is_deciding_spec =
     tie.close
     (tie.spec
-    size-at-requires
-    size-at-requires-2
-    add-part
-    add-part-2
+    size_at-n-requires
+    size_at-m-requires
+    overflow_add-n
+    overflow_add-n-2
     part-requires
-    is-among-requires
+    is_among-requires
     returns)

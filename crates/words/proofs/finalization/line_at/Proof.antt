@@ -9,46 +9,44 @@ use borrow.Author.Rules.{rules}
 use Rattle.words.proofs.finalization.line_at.Statement.{statement}
 use Rattle.words.proofs.finalization.line_at.Tie as tie
 
-form : (c : tie.After-size-at) → Finalized c.before.before.args.words.now
-form c = finalized c.before.before.args.words.now c.before.before.requires.0
+form : (c : tie.After-size_at-n) → Finalized c.args.words.now
+form c = finalized c.args.words.now c.requires.0
 
-size-at-requires : tie.Need-size-at-requires
-size-at-requires c κs = search rules
+size_at-n-requires : tie.Need-size_at-n-requires
+size_at-n-requires c κs = search rules
 
-add_read : tie.Need-overflow-add-read
-add_read c = omega (arith, form c, c.before.before.requires.1)
+overflow_add-i : tie.Need-overflow_add-i
+overflow_add-i c = omega (arith, form c, c.requires.1)
 
 read-requires : tie.Need-read-requires
 read-requires c κs = search rules
 
-add-word-at : tie.Need-overflow-add-word-at
-add-word-at c = omega (arith, form c.before, c.before.size-at.ensures)
+overflow_add-n : tie.Need-overflow_add-n
+overflow_add-n c = omega (arith, form c.before, c.size_at-n.ensures)
 
-add-word-at-2 : tie.Need-overflow-add-word-at-2
-add-word-at-2 c = omega (arith, form c.before, c.before.size-at.ensures, c.before.before.before.requires.1)
+overflow_add-n-2 : tie.Need-overflow_add-n-2
+overflow_add-n-2 c = omega (arith, form c.before, c.size_at-n.ensures, c.requires.1)
 
-word-at-requires : tie.Need-word-at-requires
-word-at-requires c κs = search rules
+word_at-requires : tie.Need-word_at-requires
+word_at-requires c κs = search rules
 
 returns : tie.Need-returns
 returns c =
-    let z = c.before.before in
-    let s = z.before.before in
-    let ws = s.args.words.now in
-    let code : c.word_at.result ≡ word (2 + line_count ws + s.args.i) ws = c.word_at.ensures ∙ ap (λ n. word (2 + n + s.args.i) ws) z.size-at.ensures in
+    let ws = c.args.words.now in
+    let code : c.word_at.result ≡ word (2 + line_count ws + c.args.i) ws = c.word_at.ensures ∙ ap (λ n. word (2 + n + c.args.i) ws) c.size_at-n.ensures in
     record {
-      next = rw (c.before.read.ensures, code) (line-at ws s.requires.0 s.args.i s.requires.1);
-      coded = rw code (code_at ws s.requires.0 s.args.i s.requires.1);
+      next = rw (c.read.ensures, code) (line-at ws c.requires.0 c.args.i c.requires.1);
+      coded = rw code (code_at ws c.requires.0 c.args.i c.requires.1);
     }
 
-pub line-at-spec : {M : Type 1} → statement M
-line-at-spec =
+pub line_at_spec : {M : Type 1} → statement M
+line_at_spec =
     tie.close
     (tie.spec
-    size-at-requires
-    add_read
+    size_at-n-requires
+    overflow_add-i
     read-requires
-    add-word-at
-    add-word-at-2
-    word-at-requires
+    overflow_add-n
+    overflow_add-n-2
+    word_at-requires
     returns)

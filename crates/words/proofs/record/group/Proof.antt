@@ -12,76 +12,60 @@ use Rattle.words.proofs.Built.{bare_as}
 use Rattle.words.proofs.record.group.Statement.{statement}
 use Rattle.words.proofs.record.group.Tie as tie
 
-size-at-requires : tie.Need-size-at-requires
-size-at-requires c κs = search rules
+size_at-n-requires : tie.Need-size_at-n-requires
+size_at-n-requires c κs = search rules
 
-add-size-at : tie.Need-overflow-add-size-at
-add-size-at c =
-    let a = c.before.before in
-    omega (arith, (recorded a.args.words.now a.requires.0).few, a.requires.1)
+overflow_add-i : tie.Need-overflow_add-i
+overflow_add-i c =
+    omega (arith, (recorded c.args.words.now c.requires.0).few, c.requires.1)
 
-size-at-requires-2 : tie.Need-size-at-requires-2
-size-at-requires-2 c κs = search rules
+size_at-m-requires : tie.Need-size_at-m-requires
+size_at-m-requires c κs = search rules
 
-part-requires : tie.Need-part-requires
-part-requires c κs =
-    let a = c.before.before.before in
-    let s = a.args in
-    omega (arith, c.size-at2.ensures, reach-within s.words.now a.requires.0 s.i s.at a.requires.1 a.requires.2)
+part-routes-requires : tie.Need-part-routes-requires
+part-routes-requires c κs =
+    let s = c.args in
+    omega (arith, c.size_at-m.ensures, reach-within s.words.now c.requires.0 s.i s.at c.requires.1 c.requires.2)
 
-add-bare : tie.Need-overflow-add-bare
-add-bare c =
-    let n = c.before.before in
-    let a = n.before.before in
-    omega (arith, n.size-at.ensures, (recorded a.args.words.now a.requires.0).few, a.requires.1)
+overflow_add-n : tie.Need-overflow_add-n
+overflow_add-n c =
+    omega (arith, c.size_at-n.ensures, (recorded c.args.words.now c.requires.0).few, c.requires.1)
 
-mul-bare : tie.Need-overflow-mul-bare
-mul-bare c =
-    let n = c.before.before in
-    let a = n.before.before in
-    omega (arith, n.size-at.ensures, (recorded a.args.words.now a.requires.0).few, a.requires.1)
+overflow_mul-i : tie.Need-overflow_mul-i
+overflow_mul-i c =
+    omega (arith, c.size_at-n.ensures, (recorded c.args.words.now c.requires.0).few, c.requires.1)
 
-add-bare-2 : tie.Need-overflow-add-bare-2
-add-bare-2 c =
-    let n = c.before.before in
-    let a = n.before.before in
-    omega (arith, n.size-at.ensures, (recorded a.args.words.now a.requires.0).few, a.requires.1)
+overflow_add-n-2 : tie.Need-overflow_add-n-2
+overflow_add-n-2 c =
+    omega (arith, c.size_at-n.ensures, (recorded c.args.words.now c.requires.0).few, c.requires.1)
 
-word-at-requires : tie.Need-word-at-requires
-word-at-requires c κs = search rules
+word_at-requires : tie.Need-word_at-requires
+word_at-requires c κs = search rules
 
 bare-requires : tie.Need-bare-requires
 bare-requires c κs =
-    let p = c.before in
-    let m = p.before in
-    let n = m.before in
-    let a = n.before.before in
-    let s = a.args in (
-      omega (arith, n.size-at.ensures, (recorded s.words.now a.requires.0).exact, a.requires.1),
-      omega (arith, ap length p.part.ensures, length_part s.at m.size-at2.result s.words.now, m.size-at2.ensures, reach-size s.words.now a.requires.0 s.i a.requires.1),
+    let s = c.args in (
+      omega (arith, c.size_at-n.ensures, (recorded s.words.now c.requires.0).exact, c.requires.1),
+      omega (arith, ap length c.part-routes.ensures, length_part s.at c.size_at-m.result s.words.now, c.size_at-m.ensures, reach-size s.words.now c.requires.0 s.i c.requires.1),
     )
 
 returns : tie.Need-returns
 returns c =
-    let w = c.before in
-    let p = w.before in
-    let m = p.before in
-    let n = m.before in
-    let s = n.before.before.args in
+    let s = c.args in
     bare_as whole _ _ s.words.now _ _ 2 _ _ c.bare.result c.bare.ensures
-    (ap (λ k. 2 + k + 5 * s.i) n.size-at.ensures) (p.part.ensures ∙ ap (λ k. take k (drop s.at s.words.now)) m.size-at2.ensures) w.word_at.ensures
+    (ap (λ k. 2 + k + 5 * s.i) c.size_at-n.ensures) (c.part-routes.ensures ∙ ap (λ k. take k (drop s.at s.words.now)) c.size_at-m.ensures) c.word_at.ensures
 
-pub group-spec : {M : Type 1} → statement M
-group-spec =
+pub group_spec : {M : Type 1} → statement M
+group_spec =
     tie.close
     (tie.spec
-    size-at-requires
-    add-size-at
-    size-at-requires-2
-    part-requires
-    add-bare
-    mul-bare
-    add-bare-2
-    word-at-requires
+    size_at-n-requires
+    overflow_add-i
+    size_at-m-requires
+    part-routes-requires
+    overflow_add-n
+    overflow_mul-i
+    overflow_add-n-2
+    word_at-requires
     bare-requires
     returns)

@@ -6,31 +6,28 @@ use Rattle.words.proofs.Groups.{recorded}
 use Rattle.words.proofs.record.group_transaction.Statement.{statement}
 use Rattle.words.proofs.record.group_transaction.Tie as tie
 
-size-at-requires : tie.Need-size-at-requires
-size-at-requires c κs = search rules
+size_at-n-requires : tie.Need-size_at-n-requires
+size_at-n-requires c κs = search rules
 
-add_read : tie.Need-overflow-add-read
-add_read c =
-    let a = c.before.before in
-    omega (arith, c.size-at.ensures, (recorded a.args.words.now a.requires.0).few, a.requires.1)
+overflow_add-n : tie.Need-overflow_add-n
+overflow_add-n c =
+    omega (arith, c.size_at-n.ensures, (recorded c.args.words.now c.requires.0).few, c.requires.1)
 
-mul-read : tie.Need-overflow-mul-read
-mul-read c =
-    let a = c.before.before in
-    omega (arith, c.size-at.ensures, (recorded a.args.words.now a.requires.0).few, a.requires.1)
+overflow_mul-i : tie.Need-overflow_mul-i
+overflow_mul-i c =
+    omega (arith, c.size_at-n.ensures, (recorded c.args.words.now c.requires.0).few, c.requires.1)
 
-add-read-2 : tie.Need-overflow-add-read-2
-add-read-2 c =
-    let a = c.before.before in
-    omega (arith, c.size-at.ensures, (recorded a.args.words.now a.requires.0).few, a.requires.1)
+overflow_add-n-2 : tie.Need-overflow_add-n-2
+overflow_add-n-2 c =
+    omega (arith, c.size_at-n.ensures, (recorded c.args.words.now c.requires.0).few, c.requires.1)
 
 read-requires : tie.Need-read-requires
 read-requires c κs = search rules
 
 returns : tie.Need-returns
-returns c = rw (c.read.ensures, c.before.size-at.ensures)
+returns c = rw (c.read.ensures, c.size_at-n.ensures)
 
-pub group-transaction-spec : {M : Type 1} → statement M
-group-transaction-spec =
+pub group_transaction_spec : {M : Type 1} → statement M
+group_transaction_spec =
     tie.close
-    (tie.spec size-at-requires add_read mul-read add-read-2 read-requires returns)
+    (tie.spec size_at-n-requires overflow_add-n overflow_mul-i overflow_add-n-2 read-requires returns)

@@ -3,7 +3,7 @@
 use borrow.Author.Rules.{rules}
 use Prim.Native.Nat.{◌≤◌, ◌+◌, ◌*◌}
 use mathlib.Core.Path.{◌≡◌, sym, ap, ◌∙◌}
-use mathlib.Core.Bool.{true, false, false≢true}
+use mathlib.Core.Bool.{false≢true}
 use native.Mathlib.Omega.{arith}
 use Rattle.lists.specs.Lists.{total, self}
 use Rattle.lists.proofs.Cuts.{fails}
@@ -12,51 +12,47 @@ use Rattle.words.proofs.Groups.{recorded, the_length, reaches_few}
 use Rattle.words.proofs.record.record_formed.Statement.{statement}
 use Rattle.words.proofs.record.record_formed.Tie as tie
 
-sizes_are : (c : tie.After-all-within) → c.before.part.result.now ≡ reach_sizes c.before.before.before.before.before.before.before.args.words.now
-sizes_are c = let p = c.before in rw (p.part.ensures, p.before.before.before.size-at.ensures)
+sizes_are : (c : tie.After-all_within) → c.part-sizes.result.now ≡ reach_sizes c.args.words.now
+sizes_are c = let p = c in rw (p.part-sizes.ensures, p.size_at-n.ensures)
 
-few : (c : tie.Then4) → total self (reach_sizes c.before.before.before.before.before.before.before.before.args.words.now) ≤ 384
+few : (c : tie.Then-all_within) → total self (reach_sizes c.args.words.now) ≤ 384
 few c =
-    let p = c.before.before in
-    let n = p.before.before.before in
-    reaches_few n.before.before.before.args.words.now (omega (arith, n.size-at.ensures, p.before.if3.false))
-    (omega (arith, n.size-at.ensures, p.before.before.if2.false))
-    (ap (within 8) (sym (sizes_are c.before)) ∙ sym c.before.all-within.ensures ∙ c.if4.true)
+    reaches_few c.args.words.now (omega (arith, c.size_at-n.ensures, c.if-words-at.false))
+    (omega (arith, c.size_at-n.ensures, c.if-n-gt48.false))
+    (ap (within 8) (sym (sizes_are c.before)) ∙ sym c.all_within.ensures ∙ c.if-all_within.true)
 
-returns : tie.Need-returns
-returns c =
-    let w = c.before.before.args.words.now in
-    fails (record_formed w) (λ f. omega (arith, (recorded w f).head, c.if1.true))
+returns-then-words-lt2 : tie.Need-returns-then-words-lt2
+returns-then-words-lt2 c =
+    let w = c.args.words.now in
+    fails (record_formed w) (λ f. omega (arith, (recorded w f).head, c.if-words-lt2.true))
 
-size-at-requires : tie.Need-size-at-requires
-size-at-requires c κs = search rules
+size_at-n-requires : tie.Need-size_at-n-requires
+size_at-n-requires c κs = search rules
 
-returns-2 : tie.Need-returns-2
-returns-2 c =
-    let n = c.before in
-    let w = n.before.before.before.args.words.now in
-    fails (record_formed w) (λ f. omega (arith, (recorded w f).few, n.size-at.ensures, c.if2.true))
+returns-then-n-gt48 : tie.Need-returns-then-n-gt48
+returns-then-n-gt48 c =
+    let w = c.args.words.now in
+    fails (record_formed w) (λ f. omega (arith, (recorded w f).few, c.size_at-n.ensures, c.if-n-gt48.true))
 
-add_at : tie.Need-overflow-add-at
-add_at c = search rules
+overflow_add-at : tie.Need-overflow_add-at
+overflow_add-at c = search rules
 
-mul_at : tie.Need-overflow-mul-at
-mul_at c = search rules
+overflow_mul-at : tie.Need-overflow_mul-at
+overflow_mul-at c = search rules
 
-add-at-2 : tie.Need-overflow-add-at-2
-add-at-2 c = search rules
+overflow_add-at-2 : tie.Need-overflow_add-at-2
+overflow_add-at-2 c = search rules
 
-returns-3 : tie.Need-returns-3
-returns-3 c =
-    let n = c.before.before in
-    let w = n.before.before.before.args.words.now in
-    fails (record_formed w) (λ f. omega (arith, (recorded w f).exact, n.size-at.ensures, c.if3.true))
+returns-then-words-at : tie.Need-returns-then-words-at
+returns-then-words-at c =
+    let w = c.args.words.now in
+    fails (record_formed w) (λ f. omega (arith, (recorded w f).exact, c.size_at-n.ensures, c.if-words-at.true))
 
-part-requires : tie.Need-part-requires
-part-requires c κs = search rules
+part-sizes-requires : tie.Need-part-sizes-requires
+part-sizes-requires c κs = search rules
 
-all-within-requires : tie.Need-all-within-requires
-all-within-requires c κs = search rules
+all_within-requires : tie.Need-all_within-requires
+all_within-requires c κs = search rules
 
 total-requires : tie.Need-total-requires
 total-requires c κs = omega (arith, ap (total self) (sizes_are c.before), few c)
@@ -64,42 +60,37 @@ total-requires c κs = omega (arith, ap (total self) (sizes_are c.before), few c
 size-requires : tie.Need-size-requires
 size-requires c κs = search rules
 
-add-result : tie.Need-overflow-add-result
-add-result c =
-    let b = c.before.before in
-    omega (arith, c.size.ensures, c.before.total.ensures, ap (total self) (sizes_are b.before), few b, b.before.before.before.before.if2.false)
+overflow_add-result : tie.Need-overflow_add-result
+overflow_add-result c =
+    omega (arith, c.size.ensures, c.total.ensures, ap (total self) (sizes_are c.before.before.before), few c.before.before, c.if-n-gt48.false)
 
-returns-4 : tie.Need-returns-4
-returns-4 c =
-    let b = c.before.before in
-    let p = b.before.before in
-    let n = p.before.before.before in
-    let w = n.before.before.before.args.words.now in
-    the_length w p.part.result.now _ c.size.result n.before.if1.false (omega (arith, n.size-at.ensures, p.before.before.if2.false))
-    (sizes_are b.before) (ap (λ m. 2 + m + 5 * m) n.size-at.ensures) (c.size.ensures ∙ c.before.total.ensures)
-    (sym b.before.all-within.ensures ∙ b.if4.true)
+returns-then-all_within : tie.Need-returns-then-all_within
+returns-then-all_within c =
+    let w = c.args.words.now in
+    the_length w c.part-sizes.result.now _ c.size.result c.if-words-lt2.false (omega (arith, c.size_at-n.ensures, c.if-n-gt48.false))
+    (sizes_are c.before.before.before) (ap (λ m. 2 + m + 5 * m) c.size_at-n.ensures) (c.size.ensures ∙ c.total.ensures)
+    (sym c.all_within.ensures ∙ c.if-all_within.true)
 
-returns-5 : tie.Need-returns-5
-returns-5 c =
-    let a = c.before in
-    let w = a.before.before.before.before.before.before.before.args.words.now in
-    fails (record_formed w) (λ f. false≢true (sym (sym a.all-within.ensures ∙ c.if4.false) ∙ ap (within 8) (sizes_are a) ∙ (recorded w f).limits))
+returns-else-all_within : tie.Need-returns-else-all_within
+returns-else-all_within c =
+    let w = c.args.words.now in
+    fails (record_formed w) (λ f. false≢true (sym (sym c.all_within.ensures ∙ c.if-all_within.false) ∙ ap (within 8) (sizes_are c.before) ∙ (recorded w f).limits))
 
-pub record-formed-spec : {M : Type 1} → statement M
-record-formed-spec =
+pub record_formed_spec : {M : Type 1} → statement M
+record_formed_spec =
     tie.close
     (tie.spec
-    returns
-    size-at-requires
-    returns-2
-    add_at
-    mul_at
-    add-at-2
-    returns-3
-    part-requires
-    all-within-requires
+    returns-then-words-lt2
+    size_at-n-requires
+    returns-then-n-gt48
+    overflow_add-at
+    overflow_mul-at
+    overflow_add-at-2
+    returns-then-words-at
+    part-sizes-requires
+    all_within-requires
     total-requires
     size-requires
-    add-result
-    returns-4
-    returns-5)
+    overflow_add-result
+    returns-then-all_within
+    returns-else-all_within)

@@ -12,85 +12,76 @@ use Rattle.words.proofs.Groups.{recorded, timed_hit, timed_miss, timed-end}
 use Rattle.words.proofs.record.record_timed.Statement.{statement}
 use Rattle.words.proofs.record.record_timed.Tie as tie
 
-abbrev invariant-loop : tie.invariant-loop
-invariant-loop words n i₀ i = (i ≤ n) × (all timed (drop i (record_groups words)) ≡ all timed (record_groups words))
+abbrev invariant-loop-i : tie.invariant-loop-i
+invariant-loop-i words n i₀ i = (i ≤ n) × (all timed (drop i (record_groups words)) ≡ all timed (record_groups words))
 
-abbrev decreases-loop : tie.decreases-loop
-decreases-loop words n i₀ i = n - i
+abbrev decreases-loop-i : tie.decreases-loop-i
+decreases-loop-i words n i₀ i = n - i
 
-size-at-requires : tie.Need-size-at-requires invariant-loop decreases-loop
-size-at-requires c κs = search rules
+size_at-n-requires : tie.Need-size_at-n-requires invariant-loop-i decreases-loop-i
+size_at-n-requires c κs = search rules
 
-loop-holds : tie.Need-loop-init invariant-loop decreases-loop
-loop-holds c = (search rules, refl)
+loop-i-init : tie.Need-loop-i-init invariant-loop-i decreases-loop-i
+loop-i-init c = (search rules, refl)
 
-add-group-timed : tie.Need-overflow-add-group-timed invariant-loop decreases-loop
-add-group-timed c =
-    let a = c.before.before.before.before in
-    omega (arith, c.before.before.size-at.ensures, recorded a.args.words.now a.requires)
+overflow_add-n : tie.Need-overflow_add-n invariant-loop-i decreases-loop-i
+overflow_add-n c =
+    omega (arith, c.size_at-n.ensures, recorded c.args.words.now c.requires)
 
-mul-group-timed : tie.Need-overflow-mul-group-timed invariant-loop decreases-loop
-mul-group-timed c =
-    let a = c.before.before.before.before in
-    omega (arith, c.before.before.size-at.ensures, recorded a.args.words.now a.requires)
+overflow_mul-i : tie.Need-overflow_mul-i invariant-loop-i decreases-loop-i
+overflow_mul-i c =
+    omega (arith, c.size_at-n.ensures, recorded c.args.words.now c.requires)
 
-add-group-timed-2 : tie.Need-overflow-add-group-timed-2 invariant-loop decreases-loop
-add-group-timed-2 c =
-    let a = c.before.before.before.before in
-    omega (arith, c.before.before.size-at.ensures, recorded a.args.words.now a.requires)
+overflow_add-n-in-loop-i : tie.Need-overflow_add-n-in-loop-i invariant-loop-i decreases-loop-i
+overflow_add-n-in-loop-i c =
+    omega (arith, c.size_at-n.ensures, recorded c.args.words.now c.requires)
 
-group-timed-requires : tie.Need-group-timed-requires invariant-loop decreases-loop
-group-timed-requires c κs =
-    let a = c.before.before.before.before in
-    omega (arith, c.before.before.size-at.ensures, recorded a.args.words.now a.requires)
+group_timed-requires : tie.Need-group_timed-requires invariant-loop-i decreases-loop-i
+group_timed-requires c κs =
+    omega (arith, c.size_at-n.ensures, recorded c.args.words.now c.requires)
 
-returns : tie.Need-returns invariant-loop decreases-loop
+returns-then-not-group_timed : tie.Need-returns-then-not-group_timed invariant-loop-i decreases-loop-i
 unfolding record_timed
-returns c =
-    let l = c.before.before.before.loop in
-    let n = c.before.before.before.before in
-    let a = n.before.before in
-    sym (sym l.invariant.1 ∙ timed_miss a.args.words.now a.requires l.i (2 + n.size-at.result + 5 * l.i) (omega (arith, n.size-at.ensures))
-    (ap (λ m. 2 + m + 5 * l.i) n.size-at.ensures) (sym c.before.group-timed.ensures ∙ not-true _ c.if1.true))
+returns-then-not-group_timed c =
+    let l = c.loop-i in
+    sym (sym l.invariant.1 ∙ timed_miss c.args.words.now c.requires l.i (2 + c.size_at-n.result + 5 * l.i) (omega (arith, c.size_at-n.ensures))
+    (ap (λ m. 2 + m + 5 * l.i) c.size_at-n.ensures) (sym c.group_timed.ensures ∙ not-true _ c.if-not-group_timed.true-raw))
 
-add-i : tie.Need-overflow-add-i invariant-loop decreases-loop
-add-i c = search rules
+overflow_add-i : tie.Need-overflow_add-i invariant-loop-i decreases-loop-i
+overflow_add-i c = search rules
 
-loop-less : tie.Need-loop-smaller invariant-loop decreases-loop
-loop-less c = search rules
+loop-i-smaller : tie.Need-loop-i-smaller invariant-loop-i decreases-loop-i
+loop-i-smaller c = search rules
 
-loop-again : tie.Need-loop-preserved invariant-loop decreases-loop
-loop-again c =
-    let l = c.before.before.before.loop in
-    let n = c.before.before.before.before in
-    let a = n.before.before in (
+loop-i-preserved : tie.Need-loop-i-preserved invariant-loop-i decreases-loop-i
+loop-i-preserved c =
+    let l = c.loop-i in
+    let a = c in (
       search rules,
-      timed_hit a.args.words.now a.requires l.i (2 + n.size-at.result + 5 * l.i) (omega (arith, n.size-at.ensures))
-          (ap (λ m. 2 + m + 5 * l.i) n.size-at.ensures) (sym c.before.group-timed.ensures ∙ not-false _ c.if1.false) ∙ l.invariant.1,
+      timed_hit a.args.words.now a.requires l.i (2 + c.size_at-n.result + 5 * l.i) (omega (arith, c.size_at-n.ensures))
+          (ap (λ m. 2 + m + 5 * l.i) c.size_at-n.ensures) (sym c.group_timed.ensures ∙ not-false _ c.if-not-group_timed.false-raw) ∙ l.invariant.1,
     )
 
-returns-2 : tie.Need-returns-2 invariant-loop decreases-loop
+returns : tie.Need-returns invariant-loop-i decreases-loop-i
 unfolding record_timed
-returns-2 c =
-    let l = c.before.loop in
-    let n = c.before.before in
-    let a = n.before.before in
-    sym (sym l.invariant.1 ∙ timed-end a.args.words.now a.requires l.i (omega (arith, n.size-at.ensures)))
+returns c =
+    let l = c.loop-i in
+    sym (sym l.invariant.1 ∙ timed-end c.args.words.now c.requires l.i (omega (arith, c.size_at-n.ensures)))
 
-pub record-timed-spec : {M : Type 1} → statement M
-record-timed-spec =
+pub record_timed_spec : {M : Type 1} → statement M
+record_timed_spec =
     tie.close
     (tie.spec
-    invariant-loop
-    decreases-loop
-    size-at-requires
-    loop-holds
-    add-group-timed
-    mul-group-timed
-    add-group-timed-2
-    group-timed-requires
-    returns
-    add-i
-    loop-less
-    loop-again
-    returns-2)
+    invariant-loop-i
+    decreases-loop-i
+    size_at-n-requires
+    loop-i-init
+    overflow_add-n
+    overflow_mul-i
+    overflow_add-n-in-loop-i
+    group_timed-requires
+    returns-then-not-group_timed
+    overflow_add-i
+    loop-i-smaller
+    loop-i-preserved
+    returns)

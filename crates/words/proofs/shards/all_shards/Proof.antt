@@ -11,60 +11,60 @@ use Rattle.rules.specs.Numbers.{is_shard}
 use Rattle.words.proofs.shards.all_shards.Statement.{statement}
 use Rattle.words.proofs.shards.all_shards.Tie as tie
 
-abbrev invariant-loop : tie.invariant-loop
-invariant-loop s i₀ i = (i ≤ length s) × (all is_shard (drop i s) ≡ all is_shard s)
+abbrev invariant-loop-i : tie.invariant-loop-i
+invariant-loop-i s i₀ i = (i ≤ length s) × (all is_shard (drop i s) ≡ all is_shard s)
 
-abbrev decreases-loop : tie.decreases-loop
-decreases-loop s i₀ i = length s - i
+abbrev decreases-loop-i : tie.decreases-loop-i
+decreases-loop-i s i₀ i = length s - i
 
-loop-holds : tie.Need-loop-init invariant-loop decreases-loop
-loop-holds c = search rules
+loop-i-init : tie.Need-loop-i-init invariant-loop-i decreases-loop-i
+loop-i-init c = search rules
 
-mul-is-shard : tie.Need-overflow-mul-is-shard invariant-loop decreases-loop
-mul-is-shard c = search rules
+offset_bounds-s-i : tie.Need-offset_bounds-s-i invariant-loop-i decreases-loop-i
+offset_bounds-s-i c = search rules
 
-shared-slice-read-is-shard : tie.Need-shared-slice-read-is-shard invariant-loop decreases-loop
-shared-slice-read-is-shard c = search rules
+bounds-s-i : tie.Need-bounds-s-i invariant-loop-i decreases-loop-i
+bounds-s-i c = search rules
 
-is-shard-requires : tie.Need-is-shard-requires invariant-loop decreases-loop
-is-shard-requires c κs = search rules
+is_shard-requires : tie.Need-is_shard-requires invariant-loop-i decreases-loop-i
+is_shard-requires c κs = search rules
 
-returns : tie.Need-returns invariant-loop decreases-loop
+returns-then-not-is_shard : tie.Need-returns-then-not-is_shard invariant-loop-i decreases-loop-i
+returns-then-not-is_shard c =
+    let l = c.loop-i in
+    let a = c.args in
+    sym (sym l.invariant.1 ∙ all_miss is_shard 0 a.s.now l.i (search rules) (sym c.is_shard.ensures ∙ not-true _ c.if-not-is_shard.true-raw))
+
+overflow_add-i : tie.Need-overflow_add-i invariant-loop-i decreases-loop-i
+overflow_add-i c = search rules
+
+loop-i-smaller : tie.Need-loop-i-smaller invariant-loop-i decreases-loop-i
+loop-i-smaller c = search rules
+
+loop-i-preserved : tie.Need-loop-i-preserved invariant-loop-i decreases-loop-i
+loop-i-preserved c =
+    let l = c.loop-i in
+    let a = c.args in
+    (search rules, all_hit is_shard 0 a.s.now l.i (search rules) (sym c.is_shard.ensures ∙ not-false _ c.if-not-is_shard.false-raw) ∙ l.invariant.1)
+
+returns : tie.Need-returns invariant-loop-i decreases-loop-i
 returns c =
-    let l = c.before.before.before.before.loop in
-    let a = c.before.before.before.before.before.before.args in
-    sym (sym l.invariant.1 ∙ all_miss is_shard 0 a.s.now l.i (search rules) (sym c.before.is-shard.ensures ∙ not-true _ c.if1.true))
+    let l = c.loop-i in
+    let a = c.args in
+    sym (sym l.invariant.1 ∙ all_end is_shard a.s.now l.i c.loop-i-test.false)
 
-add-i : tie.Need-overflow-add-i invariant-loop decreases-loop
-add-i c = search rules
-
-loop-less : tie.Need-loop-smaller invariant-loop decreases-loop
-loop-less c = search rules
-
-loop-again : tie.Need-loop-preserved invariant-loop decreases-loop
-loop-again c =
-    let l = c.before.before.before.before.loop in
-    let a = c.before.before.before.before.before.before.args in
-    (search rules, all_hit is_shard 0 a.s.now l.i (search rules) (sym c.before.is-shard.ensures ∙ not-false _ c.if1.false) ∙ l.invariant.1)
-
-returns-2 : tie.Need-returns-2 invariant-loop decreases-loop
-returns-2 c =
-    let l = c.before.loop in
-    let a = c.before.before.before.args in
-    sym (sym l.invariant.1 ∙ all_end is_shard a.s.now l.i c.loop-test.false)
-
-pub all-shards-spec : {M : Type 1} → statement M
-all-shards-spec =
+pub all_shards_spec : {M : Type 1} → statement M
+all_shards_spec =
     tie.close
     (tie.spec
-    invariant-loop
-    decreases-loop
-    loop-holds
-    mul-is-shard
-    shared-slice-read-is-shard
-    is-shard-requires
-    returns
-    add-i
-    loop-less
-    loop-again
-    returns-2)
+    invariant-loop-i
+    decreases-loop-i
+    loop-i-init
+    offset_bounds-s-i
+    bounds-s-i
+    is_shard-requires
+    returns-then-not-is_shard
+    overflow_add-i
+    loop-i-smaller
+    loop-i-preserved
+    returns)

@@ -12,67 +12,52 @@ use Rattle.words.proofs.Built.{bare-terms, admitted-whole, admitted_parted}
 use Rattle.words.proofs.taken.admitted.Statement.{statement}
 use Rattle.words.proofs.taken.admitted.Tie as tie
 
-routes-in-requires : tie.Need-routes-in-requires
-routes-in-requires c κs =
-    let a = c.before in
-    (formed_of a.args.words.now a.requires).sized
+routes_in-requires : tie.Need-routes_in-requires
+routes_in-requires c κs =
+    (formed_of c.args.words.now c.requires).sized
 
-part-in-requires : tie.Need-part-in-requires
-part-in-requires c κs = search rules
+part_in-requires : tie.Need-part_in-requires
+part_in-requires c κs = search rules
 
-bare-requires : tie.Need-bare-requires
-bare-requires c κs =
-    let r = c.before in
-    let a = r.before.before in
-    let w = a.args.words.now in
-    let s = (formed_of w a.requires).sized.counted in
-    (omega (arith, s.figures), omega (arith, ap length r.routes-in.ensures, length_part 9 (route_count w) w, s.routes))
+bare-e-requires : tie.Need-bare-e-requires
+bare-e-requires c κs =
+    let w = c.args.words.now in
+    let s = (formed_of w c.requires).sized.counted in
+    (omega (arith, s.figures), omega (arith, ap length c.routes_in.ensures, length_part 9 (route_count w) w, s.routes))
 
-word-at-requires : tie.Need-word-at-requires
-word-at-requires c κs = search rules
+word_at-requires : tie.Need-word_at-requires
+word_at-requires c κs = search rules
 
-with-edges-requires : tie.Need-with-edges-requires
-with-edges-requires c κs =
-    let b = c.before.before in
-    let p = b.before in
-    let r = p.before in
-    let a = r.before.before in (
+with_edges-requires : tie.Need-with_edges-requires
+with_edges-requires c κs =
+    let a = c in (
       a.requires,
-      b.bare.ensures.fits,
-      bare-terms a.args.local.0 a.args.words.now r.routes-in.result.now (plain_part p.part_in.result) b.bare.result b.bare.ensures
-          r.routes-in.ensures,
+      c.bare-e.ensures.fits,
+      bare-terms a.args.local.0 a.args.words.now c.routes_in.result.now (plain_part c.part_in.result) c.bare-e.result c.bare-e.ensures
+          c.routes_in.ensures,
     )
 
-returns : tie.Need-returns
-returns c =
-    let d = c.before in
-    let b = d.before in
-    let p = b.before in
-    let r = p.before in
-    let a = r.before.before.args in
-    admitted-whole a.local.0 a.words.now r.routes-in.result.now (plain_part p.part_in.result) b.bare.result b.bare.ensures r.routes-in.ensures
-    p.part_in.ensures (sym d.word_at.ensures ∙ c.if1.true)
+returns-then-word_at-eq0 : tie.Need-returns-then-word_at-eq0
+returns-then-word_at-eq0 c =
+    let a = c.args in
+    admitted-whole a.local.0 a.words.now c.routes_in.result.now (plain_part c.part_in.result) c.bare-e.result c.bare-e.ensures c.routes_in.ensures
+    c.part_in.ensures (sym c.word_at.ensures ∙ c.if-word_at-eq0.true)
 
-returns-2 : tie.Need-returns-2
-returns-2 c =
-    let o = c.before in
-    let d = o.before in
-    let b = d.before in
-    let p = b.before in
-    let r = p.before in
-    let a = r.before.before.args in
-    admitted_parted a.local.0 a.words.now r.routes-in.result.now (plain_part p.part_in.result) b.bare.result b.bare.ensures
-    r.routes-in.ensures
-    c.with-edges.result c.with-edges.ensures p.part_in.ensures (λ q. o.if1.false (d.word_at.ensures ∙ q))
+returns-else-word_at-eq0 : tie.Need-returns-else-word_at-eq0
+returns-else-word_at-eq0 c =
+    let a = c.args in
+    admitted_parted a.local.0 a.words.now c.routes_in.result.now (plain_part c.part_in.result) c.bare-e.result c.bare-e.ensures
+    c.routes_in.ensures
+    c.with_edges.result c.with_edges.ensures c.part_in.ensures (λ q. c.if-word_at-eq0.false (c.word_at.ensures ∙ q))
 
-pub admitted-spec : {M : Type 1} → statement M
-admitted-spec =
+pub admitted_spec : {M : Type 1} → statement M
+admitted_spec =
     tie.close
     (tie.spec
-    routes-in-requires
-    part-in-requires
-    bare-requires
-    word-at-requires
-    with-edges-requires
-    returns
-    returns-2)
+    routes_in-requires
+    part_in-requires
+    bare-e-requires
+    word_at-requires
+    with_edges-requires
+    returns-then-word_at-eq0
+    returns-else-word_at-eq0)

@@ -8,40 +8,34 @@ use Rattle.words.proofs.Built.{whole_part, core-part, leg-part}
 use Rattle.words.proofs.taken.part_in.Statement.{statement}
 use Rattle.words.proofs.taken.part_in.Tie as tie
 
-word-at-requires : tie.Need-word-at-requires
-word-at-requires c κs = search rules
+word_at-requires : tie.Need-word_at-requires
+word_at-requires c κs = search rules
 
-returns : tie.Need-returns
-returns c =
-    let d = c.before in
-    let a = d.before.before.args in
-    whole_part a.local.0 a.words.now (sym d.word_at.ensures ∙ c.if1.true)
+returns-then-word_at-eq0 : tie.Need-returns-then-word_at-eq0
+returns-then-word_at-eq0 c =
+    let a = c.args in
+    whole_part a.local.0 a.words.now (sym c.word_at.ensures ∙ c.if-word_at-eq0.true)
 
-core-in-requires : tie.Need-core-in-requires
-core-in-requires c κs =
-    let a = c.before.before.before in
-    (formed_of a.args.words.now a.requires).sized
+core_in-requires : tie.Need-core_in-requires
+core_in-requires c κs =
+    (formed_of c.args.words.now c.requires).sized
 
 contains-requires : tie.Need-contains-requires
 contains-requires c κs = search rules
 
-returns-2 : tie.Need-returns-2
-returns-2 c =
-    let n = c.before in
-    let o = n.before.before in
-    let a = o.before.before.before.args in
-    core-part a.local.0 a.words.now (λ q. o.if1.false (o.before.word_at.ensures ∙ q))
-    (ap (has self a.local.0) (sym n.before.core-in.ensures) ∙ sym n.contains.ensures ∙ c.if2.true)
+returns-then-contains : tie.Need-returns-then-contains
+returns-then-contains c =
+    let a = c.args in
+    core-part a.local.0 a.words.now (λ q. c.if-word_at-eq0.false (c.word_at.ensures ∙ q))
+    (ap (has self a.local.0) (sym c.core_in.ensures) ∙ sym c.contains.ensures ∙ c.if-contains.true)
 
-returns-3 : tie.Need-returns-3
-returns-3 c =
-    let n = c.before in
-    let o = n.before.before in
-    let a = o.before.before.before.args in
-    leg-part a.local.0 a.words.now (λ q. o.if1.false (o.before.word_at.ensures ∙ q))
-    (ap (has self a.local.0) (sym n.before.core-in.ensures) ∙ sym n.contains.ensures ∙ c.if2.false)
+returns-else-contains : tie.Need-returns-else-contains
+returns-else-contains c =
+    let a = c.args in
+    leg-part a.local.0 a.words.now (λ q. c.if-word_at-eq0.false (c.word_at.ensures ∙ q))
+    (ap (has self a.local.0) (sym c.core_in.ensures) ∙ sym c.contains.ensures ∙ c.if-contains.false)
 
-pub part-in-spec : {M : Type 1} → statement M
-part-in-spec =
+pub part_in_spec : {M : Type 1} → statement M
+part_in_spec =
     tie.close
-    (tie.spec word-at-requires returns core-in-requires contains-requires returns-2 returns-3)
+    (tie.spec word_at-requires returns-then-word_at-eq0 core_in-requires contains-requires returns-then-contains returns-else-contains)
