@@ -19,7 +19,7 @@ use types::{Shard, Transaction};
 use words::finalization::{Line, finalization_formed, is_deciding, line_at};
 
 // What a line does with the entry that it names; Refused for a code that is none of the three.
-#[derive(Drop)]
+#[derive(Clone, Copy)]
 pub enum Ruling {
     Skip,
     Resolve,

@@ -39,7 +39,7 @@ pub fn certify(mut ledger: Ledger, tx: Transaction, code: u64) -> Done
 }
 
 // What one entry says to an absence, and the entry after it.
-#[derive(Drop)]
+#[derive(Clone, Copy)]
 pub struct AbsenceOutcome {
     pub refused: u64,
     pub answer: u64,

@@ -15,7 +15,7 @@ use types::Shard;
 
 // Whether the prunes were made; how many fell and how many reports were written in all; the ledger before the prunes, after the first of them
 // that the caller asked for, and after the last.
-#[derive(Drop)]
+#[derive(Clone, Copy)]
 pub struct RunAndPruned {
     pub made: bool,
     pub fallen: u64,

@@ -53,7 +53,7 @@ pub fn may_prune(clocks: &[u64], reports: usize, counts: usize) -> bool
 }
 
 // How many fell and how many reports were written in all, the ledger after the first prunes that the caller asked for, and the last one's.
-#[derive(Drop)]
+#[derive(Clone, Copy)]
 pub struct PrunedAll {
     pub fallen: u64,
     pub written: usize,

@@ -4,7 +4,7 @@ pub mod lookups;
 pub mod reply;
 
 // What a reading says: 0 or its refusal, and its answer (0 where it was refused).
-#[derive(Drop)]
+#[derive(Clone, Copy)]
 pub struct Answer {
     pub refused: u64,
     pub answer: u64,

@@ -15,7 +15,7 @@ use store::roster::{Roster, transaction_at};
 use types::widths::CLOSE_WORDS;
 
 // By place in the roster who stays and the decision of each, and how many do not stay.
-#[derive(Drop)]
+#[derive(Clone, Copy)]
 pub struct Closing {
     pub stay: [bool; 48],
     pub codes: [u64; 48],
@@ -51,7 +51,7 @@ fn list_closed(roster: Roster, codes: [u64; 48], stay: [bool; 48], lent: &mut [u
 }
 
 // What closes says, and the parts of the ledger that it changes.
-#[derive(Drop)]
+#[derive(Clone, Copy)]
 pub struct Closed {
     pub refused: u64,
     pub answer: u64,

@@ -28,7 +28,7 @@ use types::{Shard, Time, Transaction, is_time};
 
 // By place in the roster who stays, by place on file which departures those who stay need, whether some departure may still be
 // unneeded, the words of the reports, and how many reports and how many fell.
-#[derive(Drop)]
+#[derive(Clone, Copy)]
 pub struct Pruning {
     pub stay: [bool; 48],
     pub needed: [bool; 32],
@@ -136,7 +136,7 @@ fn refusal(time: Time, reports: usize, room: usize) -> u64
 }
 
 // What a prune says, and the parts of the ledger that it changes.
-#[derive(Drop)]
+#[derive(Clone, Copy)]
 pub struct Pruned {
     pub refused: u64,
     pub answers: [u64; 3],

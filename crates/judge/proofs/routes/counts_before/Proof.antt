@@ -4,14 +4,14 @@ use borrow.Author.Tests.{lt-ltb, le-ltb, eq-eqb, ne_eqb}
 use Rattle.judge.proofs.routes.counts_before.Statement.{statement}
 use Rattle.judge.proofs.routes.counts_before.Tie as tie
 
-returns : tie.Need-returns
-returns c = simp (lt-ltb _ _ c.if1.true)
+returns-then-cut-best : tie.Need-returns-then-cut-best
+returns-then-cut-best c = simp (lt-ltb _ _ c.if-cut-best.true)
 
-returns-2 : tie.Need-returns-2
-returns-2 c = simp (le-ltb _ _ c.before.before.before.before.before.if1.false, eq-eqb _ _ c.before.before.if2.true)
+returns-then-cut-best-2 : tie.Need-returns-then-cut-best-2
+returns-then-cut-best-2 c = simp (le-ltb _ _ c.if-cut-best.false, eq-eqb _ _ c.if-cut-best-2.true)
 
-returns-3 : tie.Need-returns-3
-returns-3 c = simp (le-ltb _ _ c.before.before.before.if1.false, ne_eqb _ _ c.if2.false)
+returns-else-cut-best-2 : tie.Need-returns-else-cut-best-2
+returns-else-cut-best-2 c = simp (le-ltb _ _ c.if-cut-best.false, ne_eqb _ _ c.if-cut-best-2.false)
 
-pub counts-before-spec : {M : Type 1} → statement M
-counts-before-spec = tie.close (tie.spec returns returns-2 returns-3)
+pub counts_before_spec : {M : Type 1} → statement M
+counts_before_spec = tie.close (tie.spec returns-then-cut-best returns-then-cut-best-2 returns-else-cut-best-2)

@@ -8,21 +8,21 @@ use borrow.Author.Rules.{rules}
 use Rattle.judge.proofs.routes.counts_over.Statement.{statement}
 use Rattle.judge.proofs.routes.counts_over.Tie as tie
 
-is-over-requires : tie.Need-is-over-requires
-is-over-requires c κs = search rules
+is_over-requires : tie.Need-is_over-requires
+is_over-requires c κs = search rules
 
-counts-before-requires : tie.Need-counts-before-requires
-counts-before-requires c κs = search rules
+counts_before-requires : tie.Need-counts_before-requires
+counts_before-requires c κs = search rules
 
-returns : tie.Need-returns
-returns c =
-    let s = c.before.before.before.args in
-    and_then (eqb (s.led / 2 ^ s.zeros) s.shard.0 && ltb s.anchor.0 s.cut.0) (wins s.cut.0 s.shard.0 s.best.0 s.lowest.0) _ _ c.before.if1.true c.before.before.is-over.ensures c.counts-before.ensures
+returns-then-is_over : tie.Need-returns-then-is_over
+returns-then-is_over c =
+    let s = c.args in
+    and_then (eqb (s.led / 2 ^ s.zeros) s.shard.0 && ltb s.anchor.0 s.cut.0) (wins s.cut.0 s.shard.0 s.best.0 s.lowest.0) _ _ c.if-is_over.true c.is_over.ensures c.counts_before.ensures
 
-returns-2 : tie.Need-returns-2
-returns-2 c =
-    let s = c.before.before.args in
-    and_not (eqb (s.led / 2 ^ s.zeros) s.shard.0 && ltb s.anchor.0 s.cut.0) (wins s.cut.0 s.shard.0 s.best.0 s.lowest.0) _ c.if1.false c.before.is-over.ensures
+returns-else-is_over : tie.Need-returns-else-is_over
+returns-else-is_over c =
+    let s = c.args in
+    and_not (eqb (s.led / 2 ^ s.zeros) s.shard.0 && ltb s.anchor.0 s.cut.0) (wins s.cut.0 s.shard.0 s.best.0 s.lowest.0) _ c.if-is_over.false c.is_over.ensures
 
-pub counts-over-spec : {M : Type 1} → statement M
-counts-over-spec = tie.close (tie.spec is-over-requires counts-before-requires returns returns-2)
+pub counts_over_spec : {M : Type 1} → statement M
+counts_over_spec = tie.close (tie.spec is_over-requires counts_before-requires returns-then-is_over returns-else-is_over)

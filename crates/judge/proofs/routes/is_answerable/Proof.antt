@@ -18,12 +18,12 @@ use borrow.Author.Rules.{rules}
 use Rattle.judge.proofs.routes.is_answerable.Statement.{statement}
 use Rattle.judge.proofs.routes.is_answerable.Tie as tie
 
-abbrev invariant-loop : tie.invariant-loop
-invariant-loop n anchor local shards zeros cuts readable len routes stands i route led best₀ lowest₀ answers₀ j₀ best lowest answers j =
+abbrev invariant-loop-j : tie.invariant-loop-j
+invariant-loop-j n anchor local shards zeros cuts readable len routes stands i route led best₀ lowest₀ answers₀ j₀ best lowest answers j =
     (j ≤ len) × ((ds : List Departure) (now : ℕ) → Shows ds now (view shards zeros cuts readable len) → Best now (counting (keep (over_at anchor.0 route) (drop j ds))) best.0 lowest.0 answers)
 
-abbrev decreases-loop : tie.decreases-loop
-decreases-loop n anchor local shards zeros cuts readable len routes stands i route led best₀ lowest₀ answers₀ j₀ best lowest answers j = j
+abbrev decreases-loop-j : tie.decreases-loop-j
+decreases-loop-j n anchor local shards zeros cuts readable len routes stands i route led best₀ lowest₀ answers₀ j₀ best lowest answers j = j
 
 abbrev invariant-routes : tie.invariant-routes
 invariant-routes n anchor local shards zeros cuts readable len routes stands₀ i₀ stands i =
@@ -33,180 +33,173 @@ invariant-routes n anchor local shards zeros cuts readable len routes stands₀ 
 abbrev decreases-routes : tie.decreases-routes
 decreases-routes n anchor local shards zeros cuts readable len routes stands₀ i₀ stands i = n - i
 
-routes-holds : tie.Need-routes-init invariant-loop decreases-loop invariant-routes decreases-routes
-routes-holds c = (search rules, search rules, refl, λ ds now s. refl)
+routes-init : tie.Need-routes-init invariant-loop-j decreases-loop-j invariant-routes decreases-routes
+routes-init c = (search rules, search rules, refl, λ ds now s. refl)
 
-mul-route : tie.Need-overflow-mul-route invariant-loop decreases-loop invariant-routes decreases-routes
-mul-route c = search rules
+offset_bounds-routes-i : tie.Need-offset_bounds-routes-i invariant-loop-j decreases-loop-j invariant-routes decreases-routes
+offset_bounds-routes-i c = search rules
 
-array-read-route : tie.Need-array-read-route invariant-loop decreases-loop invariant-routes decreases-routes
-array-read-route c = search rules
+bounds-routes-i : tie.Need-bounds-routes-i invariant-loop-j decreases-loop-j invariant-routes decreases-routes
+bounds-routes-i c = search rules
 
-owns-requires : tie.Need-owns-requires invariant-loop decreases-loop invariant-routes decreases-routes
+owns-requires : tie.Need-owns-requires invariant-loop-j decreases-loop-j invariant-routes decreases-routes
 owns-requires c κs = search rules
 
-add-i : tie.Need-overflow-add-i invariant-loop decreases-loop invariant-routes decreases-routes
-add-i c = search rules
+overflow_add-i : tie.Need-overflow_add-i invariant-loop-j decreases-loop-j invariant-routes decreases-routes
+overflow_add-i c = search rules
 
-routes-less : tie.Need-routes-smaller invariant-loop decreases-loop invariant-routes decreases-routes
-routes-less c = search rules
+routes-smaller-then-owns : tie.Need-routes-smaller-then-owns invariant-loop-j decreases-loop-j invariant-routes decreases-routes
+routes-smaller-then-owns c = search rules
 
-routes-again : tie.Need-routes-preserved invariant-loop decreases-loop invariant-routes decreases-routes
-routes-again c =
-    let l = c.before.before.before.routes in
-    let a = c.before.before.before.before.args in (
+routes-preserved-then-owns : tie.Need-routes-preserved-then-owns invariant-loop-j decreases-loop-j invariant-routes decreases-routes
+routes-preserved-then-owns c =
+    let l = c.routes in
+    let a = c.args in (
       omega arith,
       l.invariant.1,
       l.invariant.2,
       λ ds now s.
           let p = answered now ds a.anchor.0 a.local.0 in
-          let miss : p (get_or a.t1 l.i 0) ≡ false =
-          ap (λ b. not b && answerable now (counting (keep (over_at a.anchor.0 (get_or a.t1 l.i 0)) ds))) (sym c.before.owns.ensures ∙ c.if1.true) in
-          any_miss p 0 a.t1 l.i a.n (omega arith) (omega arith) miss ∙ l.invariant.3 ds now s,
+          let miss : p (get_or a.routes l.i 0) ≡ false =
+          ap (λ b. not b && answerable now (counting (keep (over_at a.anchor.0 (get_or a.routes l.i 0)) ds))) (sym c.owns.ensures ∙ c.if-owns.true) in
+          any_miss p 0 a.routes l.i a.n (omega arith) (omega arith) miss ∙ l.invariant.3 ds now s,
     )
 
-with-leading-one-requires : tie.Need-with-leading-one-requires invariant-loop decreases-loop invariant-routes decreases-routes
-with-leading-one-requires c κs = search rules
+with_leading_one-led-requires : tie.Need-with_leading_one-led-requires invariant-loop-j decreases-loop-j invariant-routes decreases-routes
+with_leading_one-led-requires c κs = search rules
 
-loop-holds : tie.Need-loop-init invariant-loop decreases-loop invariant-routes decreases-routes
-loop-holds c = (search rules, λ ds now s. none_yet_lem ds now _ s _ _)
+loop-j-init : tie.Need-loop-j-init invariant-loop-j decreases-loop-j invariant-routes decreases-routes
+loop-j-init c = (search rules, λ ds now s. none_yet_lem ds now _ s _ _)
 
-sub-j : tie.Need-overflow-sub-j invariant-loop decreases-loop invariant-routes decreases-routes
-sub-j c = search rules
+overflow_sub-j : tie.Need-overflow_sub-j invariant-loop-j decreases-loop-j invariant-routes decreases-routes
+overflow_sub-j c = search rules
 
-mul-t29 : tie.Need-overflow-mul-t29 invariant-loop decreases-loop invariant-routes decreases-routes
-mul-t29 c = search rules
+offset_bounds-shards-j : tie.Need-offset_bounds-shards-j invariant-loop-j decreases-loop-j invariant-routes decreases-routes
+offset_bounds-shards-j c = search rules
 
-element-copy-out-t32 : tie.Need-element-copy-out-t32 invariant-loop decreases-loop invariant-routes decreases-routes
-element-copy-out-t32 c = search rules
+bounds-shards-j : tie.Need-bounds-shards-j invariant-loop-j decreases-loop-j invariant-routes decreases-routes
+bounds-shards-j c = search rules
 
-mul-t29-2 : tie.Need-overflow-mul-t29-2 invariant-loop decreases-loop invariant-routes decreases-routes
-mul-t29-2 c = search rules
+offset_bounds-cuts-j : tie.Need-offset_bounds-cuts-j invariant-loop-j decreases-loop-j invariant-routes decreases-routes
+offset_bounds-cuts-j c = search rules
 
-element-copy-out-t32-2 : tie.Need-element-copy-out-t32-2 invariant-loop decreases-loop invariant-routes decreases-routes
-element-copy-out-t32-2 c = search rules
+bounds-cuts-j : tie.Need-bounds-cuts-j invariant-loop-j decreases-loop-j invariant-routes decreases-routes
+bounds-cuts-j c = search rules
 
-mul-counts-over : tie.Need-overflow-mul-counts-over invariant-loop decreases-loop invariant-routes decreases-routes
-mul-counts-over c = search rules
+offset_bounds-zeros-j : tie.Need-offset_bounds-zeros-j invariant-loop-j decreases-loop-j invariant-routes decreases-routes
+offset_bounds-zeros-j c = search rules
 
-element-copy-out-counts-over :
-    tie.Need-element-copy-out-counts-over invariant-loop decreases-loop invariant-routes decreases-routes
-element-copy-out-counts-over c = search rules
+bounds-zeros-j :
+    tie.Need-bounds-zeros-j invariant-loop-j decreases-loop-j invariant-routes decreases-routes
+bounds-zeros-j c = search rules
 
-counts-over-requires : tie.Need-counts-over-requires invariant-loop decreases-loop invariant-routes decreases-routes
-counts-over-requires c κs =
-    let j = c.before.before.before.before.before.loop.j in
-    let s = c.before.before.before.before.before.before.before.before.before.before.before in
-    let z = s.requires.1.1 in
-    every_at (λ n. n < 64) 0 (j - 1) s.args.zeros.now (omega (arith, z.room, z.zero_length)) z.within
+counts_over-requires : tie.Need-counts_over-requires invariant-loop-j decreases-loop-j invariant-routes decreases-routes
+counts_over-requires c κs =
+    let j = c.loop-j.j in
+    let z = c.requires.1.1 in
+    every_at (λ n. n < 64) 0 (j - 1) c.args.zeros.now (omega (arith, z.room, z.zero_length)) z.within
 
-element-copy-out-answer : tie.Need-element-copy-out-answer invariant-loop decreases-loop invariant-routes decreases-routes
-element-copy-out-answer c = search rules
+bounds-readable-j : tie.Need-bounds-readable-j invariant-loop-j decreases-loop-j invariant-routes decreases-routes
+bounds-readable-j c = search rules
 
-loop-less : tie.Need-loop-smaller invariant-loop decreases-loop invariant-routes decreases-routes
-loop-less c = search rules
+loop-j-smaller-then-counts_over : tie.Need-loop-j-smaller-then-counts_over invariant-loop-j decreases-loop-j invariant-routes decreases-routes
+loop-j-smaller-then-counts_over c = search rules
 
-loop-again : tie.Need-loop-preserved invariant-loop decreases-loop invariant-routes decreases-routes
-loop-again c =
-    let m = c.before.before.before.before.before.before.before in
-    let l = m.loop in
-    let a = m.before.before.before.before.before.before.args in
-    let route = get_or a.t1 m.before.before.before.before.before.routes.i 0 in
-    let test = rw m.before.with-leading-one.ensures at (sym c.before.counts-over.ensures ∙ c.if2.true) in
+loop-j-preserved-then-counts_over : tie.Need-loop-j-preserved-then-counts_over invariant-loop-j decreases-loop-j invariant-routes decreases-routes
+loop-j-preserved-then-counts_over c =
+    let l = c.loop-j in
+    let a = c.args in
+    let route = get_or a.routes c.routes.i 0 in
+    let test = rw c.with_leading_one-led.ensures at (sym c.counts_over.ensures ∙ c.if-counts_over.true) in
     (omega arith, λ ds now s. turn_won ds now _ s a.anchor.0 route l.j l.best.0 l.lowest.0 l.answers (omega arith) (omega arith) (l.invariant.1 ds now s) false test)
 
-loop-less-2 : tie.Need-loop-smaller-2 invariant-loop decreases-loop invariant-routes decreases-routes
-loop-less-2 c = search rules
+loop-j-smaller : tie.Need-loop-j-smaller invariant-loop-j decreases-loop-j invariant-routes decreases-routes
+loop-j-smaller c = search rules
 
-loop-again-2 : tie.Need-loop-preserved-2 invariant-loop decreases-loop invariant-routes decreases-routes
-loop-again-2 c =
-    let m = c.before.before.before.before.before.before.before in
-    let l = m.loop in
-    let a = m.before.before.before.before.before.before.args in
-    let route = get_or a.t1 m.before.before.before.before.before.routes.i 0 in
-    let test = rw m.before.with-leading-one.ensures at (sym c.before.counts-over.ensures ∙ c.if2.false) in
+loop-j-preserved : tie.Need-loop-j-preserved invariant-loop-j decreases-loop-j invariant-routes decreases-routes
+loop-j-preserved c =
+    let l = c.loop-j in
+    let a = c.args in
+    let route = get_or a.routes c.routes.i 0 in
+    let test = rw c.with_leading_one-led.ensures at (sym c.counts_over.ensures ∙ c.if-counts_over.false) in
     (omega arith, λ ds now s. turn_lost ds now _ s a.anchor.0 route l.j l.best.0 l.lowest.0 l.answers (omega arith) (omega arith) (l.invariant.1 ds now s) test)
 
-add-i-2 : tie.Need-overflow-add-i-2 invariant-loop decreases-loop invariant-routes decreases-routes
-add-i-2 c = search rules
+overflow_add-i-in-routes : tie.Need-overflow_add-i-in-routes invariant-loop-j decreases-loop-j invariant-routes decreases-routes
+overflow_add-i-in-routes c = search rules
 
-routes-less-2 : tie.Need-routes-smaller-2 invariant-loop decreases-loop invariant-routes decreases-routes
-routes-less-2 c = search rules
+routes-smaller : tie.Need-routes-smaller invariant-loop-j decreases-loop-j invariant-routes decreases-routes
+routes-smaller c = search rules
 
-routes-again-2 : tie.Need-routes-preserved-2 invariant-loop decreases-loop invariant-routes decreases-routes
-routes-again-2 c =
-    let m = c.before.before in
-    let o = m.before.before.before in
-    let l = o.before.before.routes in
-    let a = o.before.before.before.args in (
+routes-preserved : tie.Need-routes-preserved invariant-loop-j decreases-loop-j invariant-routes decreases-routes
+routes-preserved c =
+    let l = c.routes in
+    let a = c.args in (
       omega arith,
       l.invariant.1,
       l.invariant.2,
       λ ds now s.
           let p = answered now ds a.anchor.0 a.local.0 in
-          let route = get_or a.t1 l.i 0 in
-          let z : m.loop.j ≡ 0 = omega arith in
-          let over_by = gone-through now ds (over_at a.anchor.0 route) m.loop.j m.loop.best.0 m.loop.lowest.0 m.loop.answers z (m.loop.invariant.1 ds now s) in
-          let miss : p route ≡ false = ap (λ b. is_remote a.local.0 route && b) (sym over_by ∙ c.if3.false) ∙ and_false (is_remote a.local.0 route) in
-          any_miss p 0 a.t1 l.i a.n (omega arith) (omega arith) miss ∙ l.invariant.3 ds now s,
+          let route = get_or a.routes l.i 0 in
+          let z : c.loop-j.j ≡ 0 = omega arith in
+          let over_by = gone-through now ds (over_at a.anchor.0 route) c.loop-j.j c.loop-j.best.0 c.loop-j.lowest.0 c.loop-j.answers z (c.loop-j.invariant.1 ds now s) in
+          let miss : p route ≡ false = ap (λ b. is_remote a.local.0 route && b) (sym over_by ∙ c.if-answers.false) ∙ and_false (is_remote a.local.0 route) in
+          any_miss p 0 a.routes l.i a.n (omega arith) (omega arith) miss ∙ l.invariant.3 ds now s,
     )
 
-returns : tie.Need-returns invariant-loop decreases-loop invariant-routes decreases-routes
-returns c ds now e s asks =
-    let l = c.before.routes in
-    let a = c.before.before.args in
+returns-after-routes : tie.Need-returns-after-routes invariant-loop-j decreases-loop-j invariant-routes decreases-routes
+returns-after-routes c ds now e s asks =
+    let l = c.routes in
+    let a = c.args in
     let p = answered now ds a.anchor.0 a.local.0 in
-    said-answers now ds a.local.0 (take a.n a.t1) e l.stands a.anchor.0 asks
-    (l.invariant.2 ∙ sym (any-end p a.t1 l.i a.n (omega arith) (omega arith)) ∙ l.invariant.3 ds now s)
+    said-answers now ds a.local.0 (take a.n a.routes) e l.stands a.anchor.0 asks
+    (l.invariant.2 ∙ sym (any-end p a.routes l.i a.n (omega arith) (omega arith)) ∙ l.invariant.3 ds now s)
 
-returns-2 : tie.Need-returns-2 invariant-loop decreases-loop invariant-routes decreases-routes
-returns-2 c ds now e s asks =
-    let m = c.before.before in
-    let o = m.before.before.before in
-    let l = o.before.before.routes in
-    let a = o.before.before.before.args in
+returns-then-answers : tie.Need-returns-then-answers invariant-loop-j decreases-loop-j invariant-routes decreases-routes
+returns-then-answers c ds now e s asks =
+    let l = c.routes in
+    let a = c.args in
     let p = answered now ds a.anchor.0 a.local.0 in
-    let route = get_or a.t1 l.i 0 in
-    let z : m.loop.j ≡ 0 = omega arith in
-    let over_by = gone-through now ds (over_at a.anchor.0 route) m.loop.j m.loop.best.0 m.loop.lowest.0 m.loop.answers z (m.loop.invariant.1 ds now s) in
+    let route = get_or a.routes l.i 0 in
+    let z : c.loop-j.j ≡ 0 = omega arith in
+    let over_by = gone-through now ds (over_at a.anchor.0 route) c.loop-j.j c.loop-j.best.0 c.loop-j.lowest.0 c.loop-j.answers z (c.loop-j.invariant.1 ds now s) in
     let hit : p route ≡ true =
     and_both (is_remote a.local.0 route) (answerable now (counting (keep (over_at a.anchor.0 route) ds)))
-    (ap not (sym o.owns.ensures ∙ m.before.before.if1.false)) (sym over_by ∙ c.if3.true) in
-    said-answers now ds a.local.0 (take a.n a.t1) e true a.anchor.0 asks
-    (sym (any_hit p 0 a.t1 l.i a.n (omega arith) (omega arith) hit) ∙ l.invariant.3 ds now s)
+    (ap not (sym c.owns.ensures ∙ c.if-owns.false)) (sym over_by ∙ c.if-answers.true) in
+    said-answers now ds a.local.0 (take a.n a.routes) e true a.anchor.0 asks
+    (sym (any_hit p 0 a.routes l.i a.n (omega arith) (omega arith) hit) ∙ l.invariant.3 ds now s)
 
-pub is-answerable-spec : {M : Type 1} → statement M
-is-answerable-spec =
+pub is_answerable_spec : {M : Type 1} → statement M
+is_answerable_spec =
     tie.close
     (tie.spec
-    invariant-loop
-    decreases-loop
+    invariant-loop-j
+    decreases-loop-j
     invariant-routes
     decreases-routes
-    routes-holds
-    mul-route
-    array-read-route
+    routes-init
+    offset_bounds-routes-i
+    bounds-routes-i
     owns-requires
-    add-i
-    routes-less
-    routes-again
-    with-leading-one-requires
-    loop-holds
-    sub-j
-    mul-t29
-    element-copy-out-t32
-    mul-t29-2
-    element-copy-out-t32-2
-    element-copy-out-answer
-    mul-counts-over
-    element-copy-out-counts-over
-    counts-over-requires
-    loop-less
-    loop-again
-    loop-less-2
-    loop-again-2
-    add-i-2
-    routes-less-2
-    routes-again-2
-    returns
-    returns-2)
+    overflow_add-i
+    routes-smaller-then-owns
+    routes-preserved-then-owns
+    with_leading_one-led-requires
+    loop-j-init
+    overflow_sub-j
+    offset_bounds-shards-j
+    bounds-shards-j
+    offset_bounds-cuts-j
+    bounds-cuts-j
+    bounds-readable-j
+    offset_bounds-zeros-j
+    bounds-zeros-j
+    counts_over-requires
+    loop-j-smaller-then-counts_over
+    loop-j-preserved-then-counts_over
+    loop-j-smaller
+    loop-j-preserved
+    overflow_add-i-in-routes
+    routes-smaller
+    routes-preserved
+    returns-after-routes
+    returns-then-answers)

@@ -5,14 +5,14 @@ use borrow.Author.Tests.{eq-eqb, ne_eqb}
 use Rattle.judge.proofs.routes.is_over.Statement.{statement}
 use Rattle.judge.proofs.routes.is_over.Tie as tie
 
-shr-if1 : tie.Need-overflow-shr-if1
-shr-if1 c = search rules
+overflow_shr-led : tie.Need-overflow_shr-led
+overflow_shr-led c = search rules
 
-returns : tie.Need-returns
-returns c = simp (eq-eqb _ _ c.before.before.if1.true)
+returns-then-led-zeros : tie.Need-returns-then-led-zeros
+returns-then-led-zeros c = simp (eq-eqb _ _ c.if-led-zeros.true)
 
-returns-2 : tie.Need-returns-2
-returns-2 c = simp (ne_eqb _ _ c.if1.false)
+returns-else-led-zeros : tie.Need-returns-else-led-zeros
+returns-else-led-zeros c = simp (ne_eqb _ _ c.if-led-zeros.false)
 
-pub is-over-spec : {M : Type 1} → statement M
-is-over-spec = tie.close (tie.spec shr-if1 returns returns-2)
+pub is_over_spec : {M : Type 1} → statement M
+is_over_spec = tie.close (tie.spec overflow_shr-led returns-then-led-zeros returns-else-led-zeros)

@@ -11,22 +11,22 @@ use Rattle.judge.proofs.routes.is_over_remote.Tie as tie
 owns-requires : tie.Need-owns-requires
 owns-requires c κs = search rules
 
-with-leading-one-requires : tie.Need-with-leading-one-requires
-with-leading-one-requires c κs = search rules
+with_leading_one-requires : tie.Need-with_leading_one-requires
+with_leading_one-requires c κs = search rules
 
-is-over-requires : tie.Need-is-over-requires
-is-over-requires c κs = search rules
+is_over-requires : tie.Need-is_over-requires
+is_over-requires c κs = search rules
 
-returns : tie.Need-returns
-returns c =
-    let s = c.before.before.before.before.args in
-    and_then (is_remote s.local.0 s.route) (over_by s.anchor.0 s.route s.shard.0 s.zeros s.cut.0) _ _ c.before.before.if1.true (ap not c.before.before.before.owns.ensures) (rw c.before.with-leading-one.ensures at c.is-over.ensures)
+returns-then-not-owns : tie.Need-returns-then-not-owns
+returns-then-not-owns c =
+    let s = c.args in
+    and_then (is_remote s.local.0 s.route) (over_by s.anchor.0 s.route s.shard.0 s.zeros s.cut.0) _ _ c.if-not-owns.true-raw (ap not c.owns.ensures) (rw c.with_leading_one.ensures at c.is_over.ensures)
 
-returns-2 : tie.Need-returns-2
-returns-2 c =
-    let s = c.before.before.args in
-    and_not (is_remote s.local.0 s.route) (over_by s.anchor.0 s.route s.shard.0 s.zeros s.cut.0) _ c.if1.false (ap not c.before.owns.ensures)
+returns-else-not-owns : tie.Need-returns-else-not-owns
+returns-else-not-owns c =
+    let s = c.args in
+    and_not (is_remote s.local.0 s.route) (over_by s.anchor.0 s.route s.shard.0 s.zeros s.cut.0) _ c.if-not-owns.false-raw (ap not c.owns.ensures)
 
-pub is-over-remote-spec : {M : Type 1} → statement M
-is-over-remote-spec =
-    tie.close (tie.spec owns-requires with-leading-one-requires is-over-requires returns returns-2)
+pub is_over_remote_spec : {M : Type 1} → statement M
+is_over_remote_spec =
+    tie.close (tie.spec owns-requires with_leading_one-requires is_over-requires returns-then-not-owns returns-else-not-owns)

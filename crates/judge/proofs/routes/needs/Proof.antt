@@ -7,25 +7,23 @@ use borrow.Author.Rules.{rules}
 use Rattle.judge.proofs.routes.needs.Statement.{statement}
 use Rattle.judge.proofs.routes.needs.Tie as tie
 
+returns-then-e-shard : tie.Need-returns-then-e-shard
+unfolding plain_entry
+returns-then-e-shard c d good es ez ec =
+    named-holds c.args.local.0 d (plain_entry c.args.e) good (c.if-e-shard.true ∙ es)
+
+overflow_cast-e : tie.Need-overflow_cast-e
+overflow_cast-e c = search rules
+
+covers_some-requires : tie.Need-covers_some-requires
+covers_some-requires c κs = search rules
+
 returns : tie.Need-returns
 unfolding plain_entry
 returns c d good es ez ec =
-    let a = c.before.before.before in
-    named-holds a.args.local.0 d (plain_entry a.args.e) good (c.if1.true ∙ es)
+    let other = c.if-e-shard.false in
+    other_holds c.args.local.0 d (plain_entry c.args.e) _ (λ h. other (h ∙ sym es))
+    (c.covers_some.ensures d (plain_entry c.args.e) good es ez ec (record { routes = refl; anchor = refl }))
 
-cast-covers-some : tie.Need-overflow-cast-covers-some
-cast-covers-some c = search rules
-
-covers-some-requires : tie.Need-covers-some-requires
-covers-some-requires c κs = search rules
-
-returns-2 : tie.Need-returns-2
-unfolding plain_entry
-returns-2 c d good es ez ec =
-    let a = c.before.before.before.before.before.before.before in
-    let other = c.before.before.before.before.if1.false in
-    other_holds a.args.local.0 d (plain_entry a.args.e) _ (λ h. other (h ∙ sym es))
-    (c.covers-some.ensures d (plain_entry a.args.e) good es ez ec (record { routes = refl; anchor = refl }))
-
-pub needs-spec : {M : Type 1} → statement M
-needs-spec = tie.close (tie.spec returns cast-covers-some covers-some-requires returns-2)
+pub needs_spec : {M : Type 1} → statement M
+needs_spec = tie.close (tie.spec returns-then-e-shard overflow_cast-e covers_some-requires returns)

@@ -4,31 +4,31 @@ use borrow.Author.Rules.{rules}
 use Rattle.judge.proofs.verdicts.is_awaiting.Statement.{statement}
 use Rattle.judge.proofs.verdicts.is_awaiting.Tie as tie
 
-enum_told : tie.Need-enum-told
-enum_told c = search rules
+enum_told-1 : tie.Need-enum_told-1
+enum_told-1 c = search rules
 
-enum-told-2 : tie.Need-enum-told-2
-enum-told-2 c = search rules
+enum_told-in-Whole : tie.Need-enum_told-in-Whole
+enum_told-in-Whole c = search rules
 
-enum-told-3 : tie.Need-enum-told-3
-enum-told-3 c = search rules
+enum_told-in-Leg : tie.Need-enum_told-in-Leg
+enum_told-in-Leg c = search rules
 
-enum-told-4 : tie.Need-enum-told-4
-enum-told-4 c = search rules
+enum_told-in-Remainder : tie.Need-enum_told-in-Remainder
+enum_told-in-Remainder c = search rules
 
-returns : tie.Need-returns
-returns c = simp c.enum_told.given.1
+returns-in-Core : tie.Need-returns-in-Core
+returns-in-Core c = simp c.in-Core.is
 
-returns-2 : tie.Need-returns-2
-returns-2 c = simp c.enum-told2.given.1
+returns-in-Whole : tie.Need-returns-in-Whole
+returns-in-Whole c = simp c.in-Whole.is
 
-returns-3 : tie.Need-returns-3
-returns-3 c = simp c.enum-told3.given.1
+returns-in-Leg : tie.Need-returns-in-Leg
+returns-in-Leg c = simp c.in-Leg.is
 
-returns-4 : tie.Need-returns-4
-returns-4 c = simp c.enum-told4.given.1
+returns-in-Remainder : tie.Need-returns-in-Remainder
+returns-in-Remainder c = simp c.in-Remainder.is
 
-pub is-awaiting-spec : {M : Type 1} → statement M
-is-awaiting-spec =
+pub is_awaiting_spec : {M : Type 1} → statement M
+is_awaiting_spec =
     tie.close
-    (tie.spec enum_told enum-told-2 enum-told-3 enum-told-4 returns returns-2 returns-3 returns-4)
+    (tie.spec enum_told-1 enum_told-in-Whole enum_told-in-Leg enum_told-in-Remainder returns-in-Core returns-in-Whole returns-in-Leg returns-in-Remainder)

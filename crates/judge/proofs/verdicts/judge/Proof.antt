@@ -15,98 +15,91 @@ use Rattle.judge.proofs.Judging.{sum_fits, first_test, second_test, rule_1, rule
 use Rattle.judge.proofs.verdicts.judge.Statement.{statement}
 use Rattle.judge.proofs.verdicts.judge.Tie as tie
 
-is-settling-requires : tie.Need-is-settling-requires
-is-settling-requires c κs = search rules
+is_settling-settles-requires : tie.Need-is_settling-settles-requires
+is_settling-settles-requires c κs = search rules
 
-is-awaiting-requires : tie.Need-is-awaiting-requires
-is-awaiting-requires c κs = search rules
+is_awaiting-requires : tie.Need-is_awaiting-requires
+is_awaiting-requires c κs = search rules
 
 -- rule 2's test, told by the number of absences
-settled : (c : tie.After-is-settling) → second_test (plain_entry c.before.before.args.e) ≡ c.is-settling.result
+settled : (c : tie.After-is_settling-settles) → second_test (plain_entry c.args.e) ≡ c.is_settling-settles.result
 unfolding plain_entry
 settled c =
-    let e = c.before.before.args.e in
-    let f = c.before.before.requires.0 in
+    let e = c.args.e in
+    let f = c.requires.0 in
     ap (λ b. is_settling (plain_part e.part) || b)
     (filled-zip absence e.absences_len e.absent_shards e.absent_keys (omega (arith, f.absences_len, f.absent_shards)) (omega (arith, f.absences_len, f.absent_keys)))
-    ∙ sym c.is-settling.ensures
+    ∙ sym c.is_settling-settles.ensures
 
 -- rule 1 does not fit
-unawaited : (c : tie.Else1) → first_test (plain_entry c.before.before.before.before.before.args.e) ≡ false
+unawaited : (c : tie.Else-is_awaiting) → first_test (plain_entry c.args.e) ≡ false
 unfolding plain_entry
-unawaited c = sym c.before.is-awaiting.ensures ∙ c.if1.false
+unawaited c = sym c.is_awaiting.ensures ∙ c.if-is_awaiting.false
+
+returns-then-is_awaiting : tie.Need-returns-then-is_awaiting
+unfolding plain_entry
+returns-then-is_awaiting c p faces =
+    let s = c.args in
+    let e = plain_entry s.e in
+    ap (λ r. stands_by r p s.time.0 e) (rule_1 p.local e (sym c.is_awaiting.ensures ∙ c.if-is_awaiting.true))
+
+overflow_add-e : tie.Need-overflow_add-e
+overflow_add-e c =
+    record { fits = sum_fits c.args.e.at.0 c.args.leg_span c.requires.1.1.0 c.requires.1.1.1.1.0 }
+
+quiet_unless-requires : tie.Need-quiet_unless-requires
+quiet_unless-requires c κs = search rules
+
+returns-then-settles : tie.Need-returns-then-settles
+unfolding plain_entry
+returns-then-settles c p faces =
+    let s = c.args in
+    let e = plain_entry s.e in
+    let fits = rule_2 p.local e (unawaited c.before.before.before.before) (settled c.before.before.before.before.before.before.before ∙ c.if-settles.true) in
+    let same = c.quiet_unless.ensures ∙ ap (λ m. quiet_unless (ltb s.time.0 (s.e.at.0 + m))) (sym faces.leg_span) in
+    subst (λ v. Says v p s.time.0 e) (sym same) (says_quiet p s.time.0 e settling fits refl)
+
+named_readable-requires : tie.Need-named_readable-requires
+named_readable-requires c κs = search rules
+
+reported_unless-requires : tie.Need-reported_unless-requires
+reported_unless-requires c κs = search rules
+
+returns-then-named : tie.Need-returns-then-named
+unfolding plain_entry
+returns-then-named c p faces =
+    let s = c.args in
+    let e = plain_entry s.e in
+    let named = c.if-named.true-raw in
+    let fits = rule_3 p.local e (unawaited c.before.before.before.before) (settled c.before.before.before.before.before.before.before ∙ c.if-settles.false) named in
+    let same = c.reported_unless.ensures ∙ ap (reported_unless 1) (c.named_readable.ensures p.departures s.time.0 _ _ e faces.view refl named) in
+    subst (λ v. Says v p s.time.0 e) (sym same) (says_reported p s.time.0 e recorded fits refl)
+
+by_routes-requires : tie.Need-by_routes-requires
+by_routes-requires c κs =
+    let h = c.requires in
+    (h.0, (h.1.0, (h.1.1.0, (h.1.1.1.0, h.1.1.1.1.1))))
 
 returns : tie.Need-returns
 unfolding plain_entry
 returns c p faces =
-    let s = c.before.before.before.before.before.args in
+    let s = c.args in
     let e = plain_entry s.e in
-    ap (λ r. stands_by r p s.time.0 e) (rule_1 p.local e (sym c.before.is-awaiting.ensures ∙ c.if1.true))
+    let fits = rule_4_or_5 p.local e (unawaited c.before.before.before) (settled c.before.before.before.before.before.before ∙ c.if-settles.false) c.if-named.false-raw in
+    subst (λ v. Says v p s.time.0 e) (sym (c.by_routes.ensures p s.leg_span faces)) (says-routes p s.time.0 e fits)
 
-add-quiet-unless : tie.Need-overflow-add-quiet-unless
-add-quiet-unless c =
-    let s = c.before.before.before.before.before.before.before in
-    record { fits = sum_fits s.args.e.at.0 s.args.leg-span s.requires.1.1.0 s.requires.1.1.1.1.0 }
-
-quiet-unless-requires : tie.Need-quiet-unless-requires
-quiet-unless-requires c κs = search rules
-
-returns-2 : tie.Need-returns-2
-unfolding plain_entry
-returns-2 c p faces =
-    let b = c.before.before.before.before in
-    let a = b.before.before.before in
-    let s = a.before.before.args in
-    let e = plain_entry s.e in
-    let fits = rule_2 p.local e (unawaited b) (settled a ∙ c.before.before.before.if2.true) in
-    let same = c.quiet-unless.ensures ∙ ap (λ m. quiet_unless (ltb s.time.0 (s.e.at.0 + m))) (sym faces.leg_span) in
-    subst (λ v. Says v p s.time.0 e) (sym same) (says_quiet p s.time.0 e settling fits refl)
-
-named-readable-requires : tie.Need-named-readable-requires
-named-readable-requires c κs = search rules
-
-reported-unless-requires : tie.Need-reported-unless-requires
-reported-unless-requires c κs = search rules
-
-returns-3 : tie.Need-returns-3
-unfolding plain_entry
-returns-3 c p faces =
-    let b = c.before.before.before.before in
-    let a = b.before.before.before in
-    let s = a.before.before.args in
-    let e = plain_entry s.e in
-    let named = c.before.before.if3.true in
-    let fits = rule_3 p.local e (unawaited b) (settled a ∙ c.before.before.before.if2.false) named in
-    let same = c.reported-unless.ensures ∙ ap (reported_unless 1) (c.before.named-readable.ensures p.departures s.time.0 _ _ e faces.view refl named) in
-    subst (λ v. Says v p s.time.0 e) (sym same) (says_reported p s.time.0 e recorded fits refl)
-
-by-routes-requires : tie.Need-by-routes-requires
-by-routes-requires c κs =
-    let h = c.before.before.before.before.before.before.before.requires in
-    (h.0, (h.1.0, (h.1.1.0, (h.1.1.1.0, h.1.1.1.1.1))))
-
-returns-4 : tie.Need-returns-4
-unfolding plain_entry
-returns-4 c p faces =
-    let b = c.before.before.before in
-    let a = b.before.before.before in
-    let s = a.before.before.args in
-    let e = plain_entry s.e in
-    let fits = rule_4_or_5 p.local e (unawaited b) (settled a ∙ c.before.before.if2.false) c.before.if3.false in
-    subst (λ v. Says v p s.time.0 e) (sym (c.by-routes.ensures p s.leg-span faces)) (says-routes p s.time.0 e fits)
-
-pub judge-spec : {M : Type 1} → statement M
-judge-spec =
+pub judge_spec : {M : Type 1} → statement M
+judge_spec =
     tie.close
     (tie.spec
-    is-settling-requires
-    is-awaiting-requires
-    returns
-    add-quiet-unless
-    quiet-unless-requires
-    returns-2
-    named-readable-requires
-    reported-unless-requires
-    returns-3
-    by-routes-requires
-    returns-4)
+    is_settling-settles-requires
+    is_awaiting-requires
+    returns-then-is_awaiting
+    overflow_add-e
+    quiet_unless-requires
+    returns-then-settles
+    named_readable-requires
+    reported_unless-requires
+    returns-then-named
+    by_routes-requires
+    returns)

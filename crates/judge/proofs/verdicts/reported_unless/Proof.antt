@@ -3,11 +3,11 @@
 use Rattle.judge.proofs.verdicts.reported_unless.Statement.{statement}
 use Rattle.judge.proofs.verdicts.reported_unless.Tie as tie
 
-returns : tie.Need-returns
-returns c = simp c.if1.true
+returns-then-stands : tie.Need-returns-then-stands
+returns-then-stands c = simp c.if-stands.true
 
-returns-2 : tie.Need-returns-2
-returns-2 c = simp c.if1.false
+returns-else-stands : tie.Need-returns-else-stands
+returns-else-stands c = simp c.if-stands.false
 
-pub reported-unless-spec : {M : Type 1} → statement M
-reported-unless-spec = tie.close (tie.spec returns returns-2)
+pub reported_unless_spec : {M : Type 1} → statement M
+reported_unless_spec = tie.close (tie.spec returns-then-stands returns-else-stands)

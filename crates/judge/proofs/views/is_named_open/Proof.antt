@@ -4,11 +4,11 @@ use borrow.Author.Tests.{eq-eqb, ne_eqb}
 use Rattle.judge.proofs.views.is_named_open.Statement.{statement}
 use Rattle.judge.proofs.views.is_named_open.Tie as tie
 
-returns : tie.Need-returns
-returns c = simp (eq-eqb _ _ c.if1.true)
+returns-then-departed_by-shard : tie.Need-returns-then-departed_by-shard
+returns-then-departed_by-shard c = simp (eq-eqb _ _ c.if-departed_by-shard.true)
 
-returns-2 : tie.Need-returns-2
-returns-2 c = simp (ne_eqb _ _ c.if1.false)
+returns-else-departed_by-shard : tie.Need-returns-else-departed_by-shard
+returns-else-departed_by-shard c = simp (ne_eqb _ _ c.if-departed_by-shard.false)
 
-pub is-named-open-spec : {M : Type 1} → statement M
-is-named-open-spec = tie.close (tie.spec returns returns-2)
+pub is_named_open_spec : {M : Type 1} → statement M
+is_named_open_spec = tie.close (tie.spec returns-then-departed_by-shard returns-else-departed_by-shard)

@@ -3,11 +3,11 @@
 use Rattle.judge.proofs.views.is_readable.Statement.{statement}
 use Rattle.judge.proofs.views.is_readable.Tie as tie
 
-returns : tie.Need-returns
-returns c = simp c.before.before.if1.true
+returns-then-d : tie.Need-returns-then-d
+returns-then-d c = simp c.if-d.true
 
-returns-2 : tie.Need-returns-2
-returns-2 c = simp c.if1.false
+returns-else-d : tie.Need-returns-else-d
+returns-else-d c = simp c.if-d.false
 
-pub is-readable-spec : {M : Type 1} → statement M
-is-readable-spec = tie.close (tie.spec returns returns-2)
+pub is_readable_spec : {M : Type 1} → statement M
+is_readable_spec = tie.close (tie.spec returns-then-d returns-else-d)

@@ -14,69 +14,69 @@ use borrow.Author.Rules.{rules}
 use Rattle.judge.proofs.views.named_readable.Statement.{statement}
 use Rattle.judge.proofs.views.named_readable.Tie as tie
 
-abbrev invariant-loop : tie.invariant-loop
-invariant-loop departed_by shards readable n i₀ i =
+abbrev invariant-loop-i : tie.invariant-loop-i
+invariant-loop-i departed_by shards readable n i₀ i =
     (i ≤ n) × ((ds : List Departure) (now : ℕ) (zs cs : List ℕ) → Shows ds now (view shards zs cs readable n) → any (named_open now departed_by.0) (drop i ds) ≡ any (named_open now departed_by.0) ds)
 
-abbrev decreases-loop : tie.decreases-loop
-decreases-loop departed_by shards readable n i₀ i = n - i
+abbrev decreases-loop-i : tie.decreases-loop-i
+decreases-loop-i departed_by shards readable n i₀ i = n - i
 
-loop-holds : tie.Need-loop-init invariant-loop decreases-loop
-loop-holds c = (search rules, λ ds now zs cs s. refl)
+loop-i-init : tie.Need-loop-i-init invariant-loop-i decreases-loop-i
+loop-i-init c = (search rules, λ ds now zs cs s. refl)
 
-mul-t8 : tie.Need-overflow-mul-t8 invariant-loop decreases-loop
-mul-t8 c = search rules
+offset_bounds-shards-i : tie.Need-offset_bounds-shards-i invariant-loop-i decreases-loop-i
+offset_bounds-shards-i c = search rules
 
-element-copy-out-t11 : tie.Need-element-copy-out-t11 invariant-loop decreases-loop
-element-copy-out-t11 c = search rules
+bounds-shards-i : tie.Need-bounds-shards-i invariant-loop-i decreases-loop-i
+bounds-shards-i c = search rules
 
-element-copy-out-is-named-open : tie.Need-element-copy-out-is-named-open invariant-loop decreases-loop
-element-copy-out-is-named-open c = search rules
+bounds-readable-i : tie.Need-bounds-readable-i invariant-loop-i decreases-loop-i
+bounds-readable-i c = search rules
 
-is-named-open-requires : tie.Need-is-named-open-requires invariant-loop decreases-loop
-is-named-open-requires c κs = search rules
+is_named_open-requires : tie.Need-is_named_open-requires invariant-loop-i decreases-loop-i
+is_named_open-requires c κs = search rules
 
-returns : tie.Need-returns invariant-loop decreases-loop
-returns c ds now zs cs e s en t =
-    let l = c.before.before.before.before.before.loop in
-    let a = c.before.before.before.before.before.before.args in
-    said-named now ds e true a.departed-by.0 en t
-    (sym (open_one ds now (view a.shards.now zs cs a.readable.now a.n) s a.departed-by.0 l.i false (omega arith) (sym c.before.is-named-open.ensures ∙ c.if1.true)) ∙ l.invariant.1 ds now zs cs s)
+returns-then-is_named_open : tie.Need-returns-then-is_named_open invariant-loop-i decreases-loop-i
+returns-then-is_named_open c ds now zs cs e s en t =
+    let l = c.loop-i in
+    let a = c.args in
+    said-named now ds e true a.departed_by.0 en t
+    (sym (open_one ds now (view a.shards.now zs cs a.readable.now a.n) s a.departed_by.0 l.i false (omega arith) (sym c.is_named_open.ensures ∙ c.if-is_named_open.true)) ∙ l.invariant.1 ds now zs cs s)
 
-add-i : tie.Need-overflow-add-i invariant-loop decreases-loop
-add-i c = search rules
+overflow_add-i : tie.Need-overflow_add-i invariant-loop-i decreases-loop-i
+overflow_add-i c = search rules
 
-loop-less : tie.Need-loop-smaller invariant-loop decreases-loop
-loop-less c = search rules
+loop-i-smaller : tie.Need-loop-i-smaller invariant-loop-i decreases-loop-i
+loop-i-smaller c = search rules
 
-loop-again : tie.Need-loop-preserved invariant-loop decreases-loop
-loop-again c =
-    let l = c.before.before.before.before.before.loop in
-    let a = c.before.before.before.before.before.before.args in (
+loop-i-preserved : tie.Need-loop-i-preserved invariant-loop-i decreases-loop-i
+loop-i-preserved c =
+    let l = c.loop-i in
+    let a = c.args in (
       omega arith,
       λ ds now zs cs s.
-          open_none ds now (view a.shards.now zs cs a.readable.now a.n) s a.departed-by.0 l.i false (omega arith) (sym c.before.is-named-open.ensures ∙ c.if1.false) ∙ l.invariant.1 ds now zs cs s,
+          open_none ds now (view a.shards.now zs cs a.readable.now a.n) s a.departed_by.0 l.i false (omega arith) (sym c.is_named_open.ensures ∙ c.if-is_named_open.false) ∙ l.invariant.1 ds now zs cs s,
     )
 
-returns-2 : tie.Need-returns-2 invariant-loop decreases-loop
-returns-2 c ds now zs cs e s en t =
-    let l = c.before.loop in
-    let a = c.before.before.args in
-    said-named now ds e false a.departed-by.0 en t (sym (open_past ds now (view a.shards.now zs cs a.readable.now a.n) s a.departed-by.0 l.i (omega arith)) ∙ l.invariant.1 ds now zs cs s)
+returns : tie.Need-returns invariant-loop-i decreases-loop-i
+returns c ds now zs cs e s en t =
+    let l = c.loop-i in
+    let a = c.args in
+    said-named now ds e false a.departed_by.0 en t (sym (open_past ds now (view a.shards.now zs cs a.readable.now a.n) s a.departed_by.0 l.i (omega arith)) ∙ l.invariant.1 ds now zs cs s)
 
-pub named-readable-spec : {M : Type 1} → statement M
-named-readable-spec =
+pub named_readable_spec : {M : Type 1} → statement M
+named_readable_spec =
     tie.close
     (tie.spec
-    invariant-loop
-    decreases-loop
-    loop-holds
-    mul-t8
-    element-copy-out-t11
-    element-copy-out-is-named-open
-    is-named-open-requires
-    returns
-    add-i
-    loop-less
-    loop-again
-    returns-2)
+    invariant-loop-i
+    decreases-loop-i
+    loop-i-init
+    offset_bounds-shards-i
+    bounds-shards-i
+    bounds-readable-i
+    is_named_open-requires
+    returns-then-is_named_open
+    overflow_add-i
+    loop-i-smaller
+    loop-i-preserved
+    returns)

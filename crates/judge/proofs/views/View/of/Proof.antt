@@ -9,86 +9,83 @@ use borrow.Author.Rules.{rules}
 use Rattle.judge.proofs.views.View.of.Statement.{statement}
 use Rattle.judge.proofs.views.View.of.Tie as tie
 
-abbrev invariant-loop : tie.invariant-loop
-invariant-loop time n items shards₀ zeros₀ cuts₀ readable₀ i₀ shards zeros cuts readable i =
+abbrev invariant-loop-i : tie.invariant-loop-i
+invariant-loop-i time n items shards₀ zeros₀ cuts₀ readable₀ i₀ shards zeros cuts readable i =
     (i ≤ n) × (n ≤ 32) × (length items ≡ 32) × Filled items time.0 i shards zeros cuts readable
 
-abbrev decreases-loop : tie.decreases-loop
-decreases-loop time n items shards₀ zeros₀ cuts₀ readable₀ i₀ shards zeros cuts readable i = n - i
+abbrev decreases-loop-i : tie.decreases-loop-i
+decreases-loop-i time n items shards₀ zeros₀ cuts₀ readable₀ i₀ shards zeros cuts readable i = n - i
 
-loop-holds : tie.Need-loop-init invariant-loop decreases-loop
-loop-holds c =
-    let s = c.before in
-    (omega arith, s.requires.0.room, s.requires.0.item_length, none_filled s.args.d.items s.args.time.0)
+loop-i-init : tie.Need-loop-i-init invariant-loop-i decreases-loop-i
+loop-i-init c =
+    (omega arith, c.requires.0.room, c.requires.0.item_length, none_filled c.args.d.items c.args.time.0)
 
-mul-x : tie.Need-overflow-mul-x invariant-loop decreases-loop
-mul-x c = search rules
+offset_bounds-items-i : tie.Need-offset_bounds-items-i invariant-loop-i decreases-loop-i
+offset_bounds-items-i c = search rules
 
-array-copy-out-x : tie.Need-array-copy-out-x invariant-loop decreases-loop
-array-copy-out-x c = search rules
+bounds-items-i : tie.Need-bounds-items-i invariant-loop-i decreases-loop-i
+bounds-items-i c = search rules
 
-mul-shards : tie.Need-overflow-mul-shards invariant-loop decreases-loop
-mul-shards c = search rules
+offset_bounds-shards-i : tie.Need-offset_bounds-shards-i invariant-loop-i decreases-loop-i
+offset_bounds-shards-i c = search rules
 
-array-write-shards : tie.Need-array-write-shards invariant-loop decreases-loop
-array-write-shards c = search rules
+bounds-shards-i : tie.Need-bounds-shards-i invariant-loop-i decreases-loop-i
+bounds-shards-i c = search rules
 
-mul-zeros : tie.Need-overflow-mul-zeros invariant-loop decreases-loop
-mul-zeros c = search rules
+offset_bounds-zeros-i : tie.Need-offset_bounds-zeros-i invariant-loop-i decreases-loop-i
+offset_bounds-zeros-i c = search rules
 
-array-write-zeros : tie.Need-array-write-zeros invariant-loop decreases-loop
-array-write-zeros c = search rules
+bounds-zeros-i : tie.Need-bounds-zeros-i invariant-loop-i decreases-loop-i
+bounds-zeros-i c = search rules
 
-mul-cuts : tie.Need-overflow-mul-cuts invariant-loop decreases-loop
-mul-cuts c = search rules
+offset_bounds-cuts-i : tie.Need-offset_bounds-cuts-i invariant-loop-i decreases-loop-i
+offset_bounds-cuts-i c = search rules
 
-array-write-cuts : tie.Need-array-write-cuts invariant-loop decreases-loop
-array-write-cuts c = search rules
+bounds-cuts-i : tie.Need-bounds-cuts-i invariant-loop-i decreases-loop-i
+bounds-cuts-i c = search rules
 
-is-readable-requires : tie.Need-is-readable-requires invariant-loop decreases-loop
-is-readable-requires c κs = search rules
+is_readable-requires : tie.Need-is_readable-requires invariant-loop-i decreases-loop-i
+is_readable-requires c κs = search rules
 
-array-write-readable : tie.Need-array-write-readable invariant-loop decreases-loop
-array-write-readable c = search rules
+bounds-readable-i : tie.Need-bounds-readable-i invariant-loop-i decreases-loop-i
+bounds-readable-i c = search rules
 
-add-i : tie.Need-overflow-add-i invariant-loop decreases-loop
-add-i c = search rules
+overflow_add-i : tie.Need-overflow_add-i invariant-loop-i decreases-loop-i
+overflow_add-i c = search rules
 
-loop-less : tie.Need-loop-smaller invariant-loop decreases-loop
-loop-less c = search rules
+loop-i-smaller : tie.Need-loop-i-smaller invariant-loop-i decreases-loop-i
+loop-i-smaller c = search rules
 
-loop-again : tie.Need-loop-preserved invariant-loop decreases-loop
-loop-again c =
-    let l = c.before.before.before.before.loop in
-    let s = c.before.before.before.before.before.before in
-    let f = one_filled s.args.d.items s.args.time.0 s.args.d.len l.i l.shards l.zeros l.cuts l.readable _ (omega arith) (omega arith) (omega arith) s.requires.1 l.invariant.3 _ c.is-readable.ensures in
+loop-i-preserved : tie.Need-loop-i-preserved invariant-loop-i decreases-loop-i
+loop-i-preserved c =
+    let l = c.loop-i in
+    let f = one_filled c.args.d.items c.args.time.0 c.args.d.len l.i l.shards l.zeros l.cuts l.readable _ (omega arith) (omega arith) (omega arith) c.requires.1 l.invariant.3 _ c.is_readable.ensures in
     (omega arith, l.invariant.1, l.invariant.2, f)
 
-returns : tie.Need-returns invariant-loop decreases-loop
+returns : tie.Need-returns invariant-loop-i decreases-loop-i
 returns c =
-    let l = c.before.loop in
-    let s = c.before.before.before in
-    let e : l.i ≡ s.args.d.len = omega arith in
-    all-filled s.args.d.items s.args.time.0 s.args.d.len _ refl l.invariant.1 s.requires.1 (rw e at l.invariant.3)
+    let l = c.loop-i in
+    let e : l.i ≡ c.args.d.len = omega arith in
+    all-filled c.args.d.items c.args.time.0 c.args.d.len _ refl l.invariant.1 c.requires.1 (rw e at l.invariant.3)
 
 pub of_spec : {M : Type 1} → statement M
 of_spec =
     tie.close
     (tie.spec
-    invariant-loop
-    decreases-loop
-    loop-holds
-    mul-x
-    array-copy-out-x
-    mul-shards
-    array-write-shards
-    mul-zeros
-    array-write-zeros
-    mul-cuts
-    array-write-cuts
-    is-readable-requires
-    array-write-readable
-    add-i
-    loop-less
-    loop-again
+    invariant-loop-i
+    decreases-loop-i
+    loop-i-init
+    offset_bounds-items-i
+    bounds-items-i
+    offset_bounds-shards-i
+    bounds-shards-i
+    offset_bounds-zeros-i
+    bounds-zeros-i
+    offset_bounds-cuts-i
+    bounds-cuts-i
+    is_readable-requires
+    bounds-readable-i
+    overflow_add-i
+    loop-i-smaller
+    loop-i-preserved
     returns)
