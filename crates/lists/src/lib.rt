@@ -5,7 +5,7 @@ pub mod slices;
 pub mod sorted;
 
 // Found at a place, or nothing.
-#[derive(Drop)]
+#[derive(Clone, Copy)]
 pub enum Found {
     At(usize),
     Nothing,

@@ -6,45 +6,35 @@ use borrow.Author.Rules.{rules}
 use Rattle.calls.proofs.admission.refusal.Statement.{statement}
 use Rattle.calls.proofs.admission.refusal.Tie as tie
 
-refused-words-requires : tie.Need-refused-words-requires
-refused-words-requires c κs = search rules
+refused_words-refused-requires : tie.Need-refused_words-refused-requires
+refused_words-refused-requires c κs = search rules
 
-returns : tie.Need-returns
-returns c =
-    let w = c.before in
-    let s = w.before.before in
-    words_first s.args.words.now s.args.found s.args.len w.refused-words.result w.refused-words.ensures (omega arith)
+returns-then-refused-gt0 : tie.Need-returns-then-refused-gt0
+returns-then-refused-gt0 c =
+    words_first c.args.words.now c.args.found c.args.len c.refused_words-refused.result c.refused_words-refused.ensures (omega arith)
 
-enum_told : tie.Need-enum-told
-enum_told c = search rules
+enum_told-1 : tie.Need-enum_told-1
+enum_told-1 c = search rules
 
-enum-told-2 : tie.Need-enum-told-2
-enum-told-2 c = search rules
+enum_told-in_default : tie.Need-enum_told-in_default
+enum_told-in_default c = search rules
 
-returns-2 : tie.Need-returns-2
-returns-2 c =
-    let w = c.before.before.before in
-    let s = w.before.before in
-    room-last s.args.words.now s.args.found s.args.len w.refused-words.result w.refused-words.ensures (omega arith) 0
-    (found-says s.args.found c.enum-told2.given.0.0 s.args.len c.enum-told2.given.1)
+returns-in_default : tie.Need-returns-in_default
+returns-in_default c =
+    room-last c.args.words.now c.args.found c.args.len c.refused_words-refused.result c.refused_words-refused.ensures (omega arith) 0
+    (found-says c.args.found c.in_default.field-0 c.args.len c.in_default.is)
 
-returns-3 : tie.Need-returns-3
-returns-3 c =
-    let t = c.before in
-    let w = t.before.before.before in
-    let s = w.before.before in
-    room-last s.args.words.now s.args.found s.args.len w.refused-words.result w.refused-words.ensures (omega arith) 6
-    (full_says s.args.found s.args.len t.enum_told.given.1 (omega arith))
+returns-then-len-ge48 : tie.Need-returns-then-len-ge48
+returns-then-len-ge48 c =
+    room-last c.args.words.now c.args.found c.args.len c.refused_words-refused.result c.refused_words-refused.ensures (omega arith) 6
+    (full_says c.args.found c.args.len c.in-Nothing.is (omega arith))
 
-returns-4 : tie.Need-returns-4
-returns-4 c =
-    let t = c.before in
-    let w = t.before.before.before in
-    let s = w.before.before in
-    room-last s.args.words.now s.args.found s.args.len w.refused-words.result w.refused-words.ensures (omega arith) 0
-    (free_says s.args.found s.args.len t.enum_told.given.1 (omega arith))
+returns-else-len-ge48 : tie.Need-returns-else-len-ge48
+returns-else-len-ge48 c =
+    room-last c.args.words.now c.args.found c.args.len c.refused_words-refused.result c.refused_words-refused.ensures (omega arith) 0
+    (free_says c.args.found c.args.len c.in-Nothing.is (omega arith))
 
-pub refusal-spec : {M : Type 1} → statement M
-refusal-spec =
+pub refusal_spec : {M : Type 1} → statement M
+refusal_spec =
     tie.close
-    (tie.spec refused-words-requires returns enum_told enum-told-2 returns-2 returns-3 returns-4)
+    (tie.spec refused_words-refused-requires returns-then-refused-gt0 enum_told-1 enum_told-in_default returns-in_default returns-then-len-ge48 returns-else-len-ge48)

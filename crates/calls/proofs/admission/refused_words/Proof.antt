@@ -9,51 +9,46 @@ use borrow.Author.Rules.{rules}
 use Rattle.calls.proofs.admission.refused_words.Statement.{statement}
 use Rattle.calls.proofs.admission.refused_words.Tie as tie
 
-is_formed : (c : tie.Else1) → admission_formed c.before.before.before.args.words.now ≡ true
-is_formed c = sym c.before.admission-formed.ensures ∙ not-false _ c.if1.false
+is_formed : (c : tie.Else-not-admission_formed) → admission_formed c.args.words.now ≡ true
+is_formed c = sym c.admission_formed.ensures ∙ not-false _ c.if-not-admission_formed.false-raw
 
-is-timed : (c : tie.Else2) → admission_timed c.before.before.before.before.before.args.words.now ≡ true
-is-timed c = sym c.before.admission-timed.ensures ∙ not-false _ c.if2.false
+is-timed : (c : tie.Else-not-admission_timed) → admission_timed c.args.words.now ≡ true
+is-timed c = sym c.admission_timed.ensures ∙ not-false _ c.if-not-admission_timed.false-raw
 
-admission-formed-requires : tie.Need-admission-formed-requires
-admission-formed-requires c κs = search rules
+admission_formed-requires : tie.Need-admission_formed-requires
+admission_formed-requires c κs = search rules
 
-returns : tie.Need-returns
-returns c =
-    not_formed c.before.before.before.args.words.now (sym c.before.admission-formed.ensures ∙ not-true _ c.if1.true)
+returns-then-not-admission_formed : tie.Need-returns-then-not-admission_formed
+returns-then-not-admission_formed c =
+    not_formed c.args.words.now (sym c.admission_formed.ensures ∙ not-true _ c.if-not-admission_formed.true-raw)
 
-admission-timed-requires : tie.Need-admission-timed-requires
-admission-timed-requires c κs = search rules
+admission_timed-requires : tie.Need-admission_timed-requires
+admission_timed-requires c κs = search rules
 
-returns-2 : tie.Need-returns-2
-returns-2 c =
-    let k = c.before.before in
-    not-timed k.before.before.before.args.words.now (is_formed k) (sym c.before.admission-timed.ensures ∙ not-true _ c.if2.true)
+returns-then-not-admission_timed : tie.Need-returns-then-not-admission_timed
+returns-then-not-admission_timed c =
+    not-timed c.args.words.now (is_formed c.before.before) (sym c.admission_timed.ensures ∙ not-true _ c.if-not-admission_timed.true-raw)
 
-admission-placed-requires : tie.Need-admission-placed-requires
-admission-placed-requires c κs =
+admission_placed-requires : tie.Need-admission_placed-requires
+admission_placed-requires c κs =
     is_formed c.before.before
 
-returns-3 : tie.Need-returns-3
-returns-3 c =
-    let k = c.before.before in
-    let f = k.before.before in
-    all_placed f.before.before.before.args.words.now (is_formed f) (is-timed k) (sym c.before.admission-placed.ensures ∙ c.if3.true)
+returns-then-admission_placed : tie.Need-returns-then-admission_placed
+returns-then-admission_placed c =
+    all_placed c.args.words.now (is_formed c.before.before.before.before) (is-timed c.before.before) (sym c.admission_placed.ensures ∙ c.if-admission_placed.true)
 
-returns-4 : tie.Need-returns-4
-returns-4 c =
-    let k = c.before.before in
-    let f = k.before.before in
-    not_placed f.before.before.before.args.words.now (is_formed f) (is-timed k) (sym c.before.admission-placed.ensures ∙ c.if3.false)
+returns-else-admission_placed : tie.Need-returns-else-admission_placed
+returns-else-admission_placed c =
+    not_placed c.args.words.now (is_formed c.before.before.before.before) (is-timed c.before.before) (sym c.admission_placed.ensures ∙ c.if-admission_placed.false)
 
-pub refused-words-spec : {M : Type 1} → statement M
-refused-words-spec =
+pub refused_words_spec : {M : Type 1} → statement M
+refused_words_spec =
     tie.close
     (tie.spec
-    admission-formed-requires
-    returns
-    admission-timed-requires
-    returns-2
-    admission-placed-requires
-    returns-3
-    returns-4)
+    admission_formed-requires
+    returns-then-not-admission_formed
+    admission_timed-requires
+    returns-then-not-admission_timed
+    admission_placed-requires
+    returns-then-admission_placed
+    returns-else-admission_placed)

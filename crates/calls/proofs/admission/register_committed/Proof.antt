@@ -20,152 +20,96 @@ use borrow.Author.Rules.{rules}
 use Rattle.calls.proofs.admission.register_committed.Statement.{statement}
 use Rattle.calls.proofs.admission.register_committed.Tie as tie
 
-are_words : (c : tie.After-shared-slice-known) → Every (Holds is_word) c.before.args.words.now
-are_words c = all_words_lem c.before.args.words.now (λ i. omega (arith, c.shared-slice-known.given i))
+are_words : (c : tie.After-shared_slice_known-1) → Every (Holds is_word) c.args.words.now
+are_words c = all_words_lem c.args.words.now (λ i. omega (arith, c.shared_slice_known-1.given i))
 
 -- what the roster says of the admission's transaction
-says : (c : tie.After-find) →
-    let s = c.before.before.before.before in
-    c.find.result ≡ place (is (admission_terms s.args.words.now).transaction) 0 (keys_of s.args.t1.roster)
+says : (c : tie.After-find-found) →
+    c.find-found.result ≡ place (is (admission_terms c.args.words.now).transaction) 0 (keys_of c.args.ledger.roster)
 says c =
-    let a = c.before in
-    let s = a.before.before.before in
-    c.find.ensures ∙ ap (λ t. place (is t) 0 (keys_of s.args.t1.roster)) a.admission-transaction.ensures
+    c.find-found.ensures ∙ ap (λ t. place (is t) 0 (keys_of c.args.ledger.roster)) c.admission_transaction-tx.ensures
 
-admission-transaction-requires : tie.Need-admission-transaction-requires
-admission-transaction-requires c κs = search rules
+admission_transaction-tx-requires : tie.Need-admission_transaction-tx-requires
+admission_transaction-tx-requires c κs = search rules
 
-find-requires : tie.Need-find-requires
-find-requires c κs = search rules
+find-found-requires : tie.Need-find-found-requires
+find-found-requires c κs = search rules
 
-refusal-requires : tie.Need-refusal-requires
-refusal-requires c κs = search rules
+refusal-refused-requires : tie.Need-refusal-refused-requires
+refusal-refused-requires c κs = search rules
 
-returns-3 : tie.Need-returns-3
-returns-3 c =
-    let r = c.before in
-    let f = r.before in
-    let a = f.before in
-    let s = a.before.before.before in
-    turned_away s.args.t1 s.requires s.args.words.now f.find.result (says f) r.refusal.result r.refusal.ensures (omega arith)
+returns-else-refused-eq0 : tie.Need-returns-else-refused-eq0
+returns-else-refused-eq0 c =
+    turned_away c.args.ledger c.requires c.args.words.now c.find-found.result (says c.before.before) c.refusal-refused.result c.refusal-refused.ensures (omega arith)
 
-enum_told : tie.Need-enum-told
-enum_told c = search rules
+enum_told-1 : tie.Need-enum_told-1
+enum_told-1 c = search rules
 
-enum-told-2 : tie.Need-enum-told-2
-enum-told-2 c = search rules
+enum_told-in_default : tie.Need-enum_told-in_default
+enum_told-in_default c = search rules
 
-returns-2 : tie.Need-returns-2
-returns-2 c =
-    let r = c.before.before.before in
-    let f = r.before in
-    let a = f.before in
-    let s = a.before.before.before in
+returns-in_default : tie.Need-returns-in_default
+returns-in_default c =
     unrefused _ 0 _ _ [] [] (omega arith)
-    (skipped s.args.t1 s.requires s.args.words.now f.find.result (says f) r.refusal.result r.refusal.ensures (omega arith) c.enum-told2.given.0.0 c.enum-told2.given.1)
+    (skipped c.args.ledger c.requires c.args.words.now c.find-found.result (says c.before.before.before) c.refusal-refused.result c.refusal-refused.ensures (omega arith) c.in_default.field-0 c.in_default.is)
 
-admitted-requires : tie.Need-admitted-requires
-admitted-requires c κs =
-    let n = c.before in
-    let r = n.before.before.before in
-    let f = r.before in
-    let a = f.before in
-    let s = a.before.before.before in
-    is_formed s.args.t1 s.requires s.args.words.now f.find.result (says f) r.refusal.result r.refusal.ensures (omega arith)
+admitted-e-requires : tie.Need-admitted-e-requires
+admitted-e-requires c κs =
+    is_formed c.args.ledger c.requires c.args.words.now c.find-found.result (says c.before.before.before.before) c.refusal-refused.result c.refusal-refused.ensures (omega arith)
 
-mul-slot : tie.Need-overflow-mul-slot
-mul-slot c =
-    let n = c.before.before in
-    let r = n.before.before.before in
-    let f = r.before in
-    let a = f.before in
-    let s = a.before.before.before in
-    omega (arith, is_free s.args.t1 s.requires s.args.words.now f.find.result (says f) r.refusal.result r.refusal.ensures (omega arith) n.enum_told.given.1)
+offset_bounds-roster-len : tie.Need-offset_bounds-roster-len
+offset_bounds-roster-len c =
+    omega (arith, is_free c.args.ledger c.requires c.args.words.now c.find-found.result (says c.before.before.before.before.before) c.refusal-refused.result c.refusal-refused.ensures (omega arith) c.in-Nothing.is)
 
-element-copy-out-slot : tie.Need-element-copy-out-slot
-element-copy-out-slot c =
-    let n = c.before.before in
-    let r = n.before.before.before in
-    let f = r.before in
-    let a = f.before in
-    let s = a.before.before.before in
-    is_free s.args.t1 s.requires s.args.words.now f.find.result (says f) r.refusal.result r.refusal.ensures (omega arith) n.enum_told.given.1
+bounds-roster-len : tie.Need-bounds-roster-len
+bounds-roster-len c =
+    is_free c.args.ledger c.requires c.args.words.now c.find-found.result (says c.before.before.before.before.before) c.refusal-refused.result c.refusal-refused.ensures (omega arith) c.in-Nothing.is
 
 rank-requires : tie.Need-rank-requires
 rank-requires c κs =
-    let r = c.before.before.before.before.before.before in
-    r.before.before.before.before.before.requires.roster
+    c.requires.roster
 
-insert-at-requires : tie.Need-insert-at-requires
-insert-at-requires c κs =
-    let n = c.before.before.before.before in
-    let r = n.before.before.before in
-    let f = r.before in
-    let a = f.before in
-    let s = a.before.before.before in
-    let k = s.args.t1.roster in
-    (s.requires.roster, omega (arith, c.rank.ensures, rank_le (below a.admission-transaction.result.0) (keys_of s.args.t1.roster), length-take-le k.len k.keys (omega (arith, s.requires.roster.room, s.requires.roster.key_length))), is_free s.args.t1 s.requires s.args.words.now f.find.result (says f) r.refusal.result r.refusal.ensures (omega arith) n.enum_told.given.1)
+insert_at-ledger-requires : tie.Need-insert_at-ledger-requires
+insert_at-ledger-requires c κs =
+    let k = c.args.ledger.roster in
+    (c.requires.roster, omega (arith, c.rank.ensures, rank_le (below c.admission_transaction-tx.result.0) (keys_of c.args.ledger.roster), length-take-le k.len k.keys (omega (arith, c.requires.roster.room, c.requires.roster.key_length))), is_free c.args.ledger c.requires c.args.words.now c.find-found.result (says c.before.before.before.before.before.before.before) c.refusal-refused.result c.refusal-refused.ensures (omega arith) c.in-Nothing.is)
 
-name-issued-requires : tie.Need-name-issued-requires
-name-issued-requires c κs =
-    let x = c.before.before.before.before.before in
-    let n = x.before.before in
-    let r = n.before.before.before in
-    let f = r.before in
-    let a = f.before in
-    let s = a.before.before.before in
-    nameable s.args.t1 s.requires s.args.words.now f.find.result (says f) r.refusal.result r.refusal.ensures (omega arith) n.enum_told.given.1 x.admitted.result x.admitted.ensures (are_words a.before.before)
+name_issued-ledger-requires : tie.Need-name_issued-ledger-requires
+name_issued-ledger-requires c κs =
+    nameable c.args.ledger c.requires c.args.words.now c.find-found.result (says c.before.before.before.before.before.before.before.before.before.before) c.refusal-refused.result c.refusal-refused.ensures (omega arith) c.in-Nothing.is c.admitted-e.result c.admitted-e.ensures (are_words c.before.before.before.before.before.before.before.before.before.before.before.before.before)
 
-mul-e : tie.Need-overflow-mul-e
-mul-e c =
-    let n = c.before.before.before.before.before.before.before.before in
-    let r = n.before.before.before in
-    let f = r.before in
-    let a = f.before in
-    let s = a.before.before.before in
-    omega (arith, (free_slot_lem s.args.t1.roster s.requires.roster (is_free s.args.t1 s.requires s.args.words.now f.find.result (says f) r.refusal.result r.refusal.ensures (omega arith) n.enum_told.given.1)).0)
+offset_bounds-ledger-slot : tie.Need-offset_bounds-ledger-slot
+offset_bounds-ledger-slot c =
+    omega (arith, (free_slot_lem c.args.ledger.roster c.requires.roster (is_free c.args.ledger c.requires c.args.words.now c.find-found.result (says c.before.before.before.before.before.before.before.before.before.before.before) c.refusal-refused.result c.refusal-refused.ensures (omega arith) c.in-Nothing.is)).0)
 
-element-set-from-e : tie.Need-element-set-from-e
-element-set-from-e c =
-    let n = c.before.before.before.before.before.before.before.before in
-    let r = n.before.before.before in
-    let f = r.before in
-    let a = f.before in
-    let s = a.before.before.before in
-    (free_slot_lem s.args.t1.roster s.requires.roster (is_free s.args.t1 s.requires s.args.words.now f.find.result (says f) r.refusal.result r.refusal.ensures (omega arith) n.enum_told.given.1)).0
+bounds-ledger-slot : tie.Need-bounds-ledger-slot
+bounds-ledger-slot c =
+    (free_slot_lem c.args.ledger.roster c.requires.roster (is_free c.args.ledger c.requires c.args.words.now c.find-found.result (says c.before.before.before.before.before.before.before.before.before.before.before) c.refusal-refused.result c.refusal-refused.ensures (omega arith) c.in-Nothing.is)).0
 
-returns : tie.Need-returns
-returns c =
-    let b = c.before.before.before in
-    let k = b.before in
-    let x = k.before.before in
-    let n = x.before.before in
-    let r = n.before.before.before in
-    let f = r.before in
-    let a = f.before in
-    let s = a.before.before.before in
-    let t = a.admission-transaction.ensures in
+returns-in-Nothing : tie.Need-returns-in-Nothing
+returns-in-Nothing c =
+    let t = c.admission_transaction-tx.ensures in
     unrefused _ 1 _ _ [] [] (omega arith)
-    (admits s.args.t1 s.requires s.args.words.now f.find.result (says f) r.refusal.result r.refusal.ensures (omega arith) n.enum_told.given.1 x.admitted.result x.admitted.ensures (are_words a.before.before)
-    k.rank.result (k.rank.ensures ∙ ap (λ t. rank (below t) (keys_of s.args.t1.roster)) t) b.insert-at.result (rw t at b.insert-at.ensures) c.name-issued.result c.name-issued.ensures)
+    (admits c.args.ledger c.requires c.args.words.now c.find-found.result (says c.before.before.before.before.before.before.before.before.before.before.before) c.refusal-refused.result c.refusal-refused.ensures (omega arith) c.in-Nothing.is c.admitted-e.result c.admitted-e.ensures (are_words c.before.before.before.before.before.before.before.before.before.before.before.before.before.before)
+    c.rank.result (c.rank.ensures ∙ ap (λ t. rank (below t) (keys_of c.args.ledger.roster)) t) c.insert_at-ledger.result (rw t at c.insert_at-ledger.ensures) c.name_issued-ledger.result c.name_issued-ledger.ensures)
 
-pub register-committed-spec : {M : Type 1} → statement M
-register-committed-spec =
+pub register_committed_spec : {M : Type 1} → statement M
+register_committed_spec =
     tie.close
     (tie.spec
-    admission-transaction-requires
-    find-requires
-    refusal-requires
-    enum_told
-    admitted-requires
-    mul-slot
-    element-copy-out-slot
+    admission_transaction-tx-requires
+    find-found-requires
+    refusal-refused-requires
+    enum_told-1
+    admitted-e-requires
+    offset_bounds-roster-len
+    bounds-roster-len
     rank-requires
-    insert-at-requires
-    name-issued-requires
-    mul-e
-    element-set-from-e
-    enum-told-2
-    returns
-    returns-2
-    returns-3)
+    insert_at-ledger-requires
+    name_issued-ledger-requires
+    offset_bounds-ledger-slot
+    bounds-ledger-slot
+    enum_told-in_default
+    returns-in-Nothing
+    returns-in_default
+    returns-else-refused-eq0)

@@ -14,77 +14,66 @@ use Rattle.calls.proofs.certificate.absence_outcome.Statement.{statement}
 use Rattle.calls.proofs.certificate.absence_outcome.Tie as tie
 
 -- the shard is one
-placed : (c : tie.Else1) → is_shard c.before.before.args.shard.0 ≡ true
-placed c = sym c.before.is-shard.ensures ∙ not-false _ c.if1.false
+placed : (c : tie.Else-not-is_shard) → is_shard c.args.shard.0 ≡ true
+placed c = sym c.is_shard.ensures ∙ not-false _ c.if-not-is_shard.false-raw
 
-is-shard-requires : tie.Need-is-shard-requires
-is-shard-requires c κs = search rules
+is_shard-requires : tie.Need-is_shard-requires
+is_shard-requires c κs = search rules
+
+returns-then-not-is_shard : tie.Need-returns-then-not-is_shard
+returns-then-not-is_shard c =
+    let a = c.args in
+    λ l t w. unmoved 4 0 l t a.found a.e w _ (absence-shard l w.held t (absence a.shard.0 a.key) (sym c.is_shard.ensures ∙ not-true _ c.if-not-is_shard.true-raw))
+
+enum_told-1 : tie.Need-enum_told-1
+enum_told-1 c = search rules
+
+enum_told-in_default : tie.Need-enum_told-in_default
+enum_told-in_default c = search rules
+
+returns-in_default : tie.Need-returns-in_default
+returns-in_default c =
+    let a = c.args in
+    λ l t w. unmoved 0 0 l t a.found a.e w _ (absence_unknown l w.held t (absence a.shard.0 a.key) (placed c.before) (w.found ∙ c.in_default.is))
+
+is_read-requires : tie.Need-is_read-requires
+is_read-requires c κs = search rules
+
+returns-then-is_read : tie.Need-returns-then-is_read
+returns-then-is_read c =
+    let a = c.args in
+    rw c.in-At.is
+    (λ l t w. heard_read l t c.in-At.field-0 a.e w (absence a.shard.0 a.key) (placed c.before.before.before) (sym c.is_read.ensures ∙ c.if-is_read.true))
+
+returns-then-e-ge8 : tie.Need-returns-then-e-ge8
+returns-then-e-ge8 c =
+    let a = c.args in
+    rw c.in-At.is
+    (λ l t w. heard_full l t c.in-At.field-0 a.e w (absence a.shard.0 a.key) (placed c.before.before.before.before.before) (sym c.is_read.ensures ∙ c.if-is_read.false) (omega arith))
+
+with_absence-requires : tie.Need-with_absence-requires
+with_absence-requires c κs =
+    let a = c.args in
+    room_for a.e (absence a.shard.0 a.key) c.requires.0 (c.requires.1 c.in-At.field-0 c.in-At.is) (omega arith)
 
 returns : tie.Need-returns
 returns c =
-    let a = c.before.before.args in
-    λ l t w. unmoved 4 0 l t a.found a.e w _ (absence-shard l w.held t (absence a.shard.0 a.key) (sym c.before.is-shard.ensures ∙ not-true _ c.if1.true))
+    let a = c.args in
+    rw c.in-At.is
+    (λ l t w. heard_new l t c.in-At.field-0 a.e w (absence a.shard.0 a.key) (placed c.before.before.before.before.before.before) (sym c.is_read.ensures ∙ c.if-is_read.false) (omega arith)
+    (lt-ltb a.key (2 ^ 64) (omega arith)) c.with_absence.result c.with_absence.ensures)
 
-enum_told : tie.Need-enum-told
-enum_told c = search rules
-
-enum-told-2 : tie.Need-enum-told-2
-enum-told-2 c = search rules
-
-returns-2 : tie.Need-returns-2
-returns-2 c =
-    let e = c.before.before in
-    let a = e.before.before.args in
-    λ l t w. unmoved 0 0 l t a.found a.e w _ (absence_unknown l w.held t (absence a.shard.0 a.key) (placed e) (w.found ∙ c.enum-told2.given.1))
-
-is-read-requires : tie.Need-is-read-requires
-is-read-requires c κs = search rules
-
-returns-3 : tie.Need-returns-3
-returns-3 c =
-    let f = c.before.before in
-    let e = f.before.before in
-    let a = e.before.before.args in
-    rw f.enum_told.given.1
-    (λ l t w. heard_read l t f.enum_told.given.0.0 a.e w (absence a.shard.0 a.key) (placed e) (sym c.before.is_read.ensures ∙ c.if2.true))
-
-returns-4 : tie.Need-returns-4
-returns-4 c =
-    let r = c.before.before in
-    let f = r.before.before in
-    let e = f.before.before in
-    let a = e.before.before.args in
-    rw f.enum_told.given.1
-    (λ l t w. heard_full l t f.enum_told.given.0.0 a.e w (absence a.shard.0 a.key) (placed e) (sym r.before.is_read.ensures ∙ r.if2.false) (omega arith))
-
-with-absence-requires : tie.Need-with-absence-requires
-with-absence-requires c κs =
-    let f = c.before.before.before.before in
-    let s = f.before.before.before.before in
-    let a = s.args in
-    room_for a.e (absence a.shard.0 a.key) s.requires.0 (s.requires.1 f.enum_told.given.0.0 f.enum_told.given.1) (omega arith)
-
-returns-5 : tie.Need-returns-5
-returns-5 c =
-    let r = c.before.before.before in
-    let f = r.before.before in
-    let e = f.before.before in
-    let a = e.before.before.args in
-    rw f.enum_told.given.1
-    (λ l t w. heard_new l t f.enum_told.given.0.0 a.e w (absence a.shard.0 a.key) (placed e) (sym r.before.is_read.ensures ∙ r.if2.false) (omega arith)
-    (lt-ltb a.key (2 ^ 64) (omega arith)) c.with-absence.result c.with-absence.ensures)
-
-pub absence-outcome-spec : {M : Type 1} → statement M
-absence-outcome-spec =
+pub absence_outcome_spec : {M : Type 1} → statement M
+absence_outcome_spec =
     tie.close
     (tie.spec
-    is-shard-requires
-    returns
-    enum_told
-    enum-told-2
-    returns-2
-    is-read-requires
-    returns-3
-    returns-4
-    with-absence-requires
-    returns-5)
+    is_shard-requires
+    returns-then-not-is_shard
+    enum_told-1
+    enum_told-in_default
+    returns-in_default
+    is_read-requires
+    returns-then-is_read
+    returns-then-e-ge8
+    with_absence-requires
+    returns)

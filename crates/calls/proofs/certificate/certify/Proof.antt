@@ -12,71 +12,67 @@ use Rattle.calls.proofs.certificate.certify.Statement.{statement}
 use Rattle.calls.proofs.certificate.certify.Tie as tie
 
 -- where the entry lies, and what is known of it
-lies : (c : tie.After-slot) → LiesIn c.before.before.before.before.before.args.t1.roster (number_of c.before.before.before.before.before.args.tx) c.slot.given.0.0
-lies c = rw c.slot.given.1 at c.before.before.slot_of.ensures
+lies : (c : tie.In-At) → LiesIn c.args.ledger.roster (number_of c.args.tx) c.in-At.slot
+lies c = rw c.in-At.is at c.slot_of.ensures
 
-there : (c : tie.After-slot) → Owed c.before.before.before.before.before.args.t1 (number_of c.before.before.before.before.before.args.tx) c.slot.given.0.0
+there : (c : tie.In-At) → Owed c.args.ledger (number_of c.args.tx) c.in-At.slot
 there c =
-    let s = c.before.before.before.before.before in
-    owed_in s.args.t1 s.requires (number_of s.args.tx) c.slot.given.0.0 (lies c)
+    owed_in c.args.ledger c.requires (number_of c.args.tx) c.in-At.slot (lies c)
 
-returns : tie.Need-returns
-returns c = let s = c.before in certify_code s.args.t1 s.requires (number_of s.args.tx) s.args.code (omega arith)
+returns-then-code-gt2 : tie.Need-returns-then-code-gt2
+returns-then-code-gt2 c = let s = c in certify_code s.args.ledger s.requires (number_of s.args.tx) s.args.code (omega arith)
 
-slot-of-requires : tie.Need-slot-of-requires
-slot-of-requires c κs = search rules
+slot_of-requires : tie.Need-slot_of-requires
+slot_of-requires c κs = search rules
 
-enum-known-slot : tie.Need-enum-known-slot
-enum-known-slot c = search rules
+enum_known-slot : tie.Need-enum_known-slot
+enum_known-slot c = search rules
 
-enum_told : tie.Need-enum-told
-enum_told c = search rules
+enum_told-1 : tie.Need-enum_told-1
+enum_told-1 c = search rules
 
-returns-3 : tie.Need-returns-3
-returns-3 c =
-    let s = c.before.before.before.before.before in
-    certify_unknown s.args.t1 s.requires (number_of s.args.tx) s.args.code (omega arith) (rw c.enum_told.given.1 at c.before.before.slot_of.ensures)
+returns-in_default : tie.Need-returns-in_default
+returns-in_default c =
+    certify_unknown c.args.ledger c.requires (number_of c.args.tx) c.args.code (omega arith) (rw c.in_default.is at c.slot_of.ensures)
 
-mul-e : tie.Need-overflow-mul-e
-mul-e c = omega (arith, (there c.before).slot)
+offset_bounds-ledger-slot : tie.Need-offset_bounds-ledger-slot
+offset_bounds-ledger-slot c = omega (arith, (there c).slot)
 
-element-copy-out-e : tie.Need-element-copy-out-e
-element-copy-out-e c = (there c.before).slot
+bounds-ledger-slot : tie.Need-bounds-ledger-slot
+bounds-ledger-slot c = (there c).slot
 
-cast-with-certificate : tie.Need-overflow-cast-with-certificate
-cast-with-certificate c = search rules
+overflow_cast-code : tie.Need-overflow_cast-code
+overflow_cast-code c = search rules
 
-with-certificate-requires : tie.Need-with-certificate-requires
-with-certificate-requires c κs = (there c.before.before).fits _
+with_certificate-requires : tie.Need-with_certificate-requires
+with_certificate-requires c κs = (there c.before).fits _
 
-mul-t11 : tie.Need-overflow-mul-t11
-mul-t11 c = omega (arith, (there c.before.before.before).slot)
+offset_bounds-ledger-slot-in-At : tie.Need-offset_bounds-ledger-slot-in-At
+offset_bounds-ledger-slot-in-At c = omega (arith, (there c.before.before).slot)
 
-element-set-from-ledger : tie.Need-element-set-from-ledger
-element-set-from-ledger c = (there c.before.before.before).slot
+bounds-ledger-slot-in-At : tie.Need-bounds-ledger-slot-in-At
+bounds-ledger-slot-in-At c = (there c.before.before).slot
 
-returns-2 : tie.Need-returns-2
-returns-2 c =
-    let k = c.before.before.before in
-    let s = k.before.before.before.before.before in
-    let small : s.args.code ≤ 2 = omega arith in
-    let same : s.args.code % 256 ≡ s.args.code = omega arith in
-    certify-owed s.args.t1 s.requires (number_of s.args.tx) s.args.code small k.slot.given.0.0 (lies k) _ c.«with-certificate».result
-    (rw same at c.«with-certificate».ensures)
+returns-in-At : tie.Need-returns-in-At
+returns-in-At c =
+    let small : c.args.code ≤ 2 = omega arith in
+    let same : c.args.code % 256 ≡ c.args.code = omega arith in
+    certify-owed c.args.ledger c.requires (number_of c.args.tx) c.args.code small c.in-At.slot (lies c.before.before) _ c.«with_certificate».result
+    (rw same at c.«with_certificate».ensures)
 
-pub certify-spec : {M : Type 1} → statement M
-certify-spec =
+pub certify_spec : {M : Type 1} → statement M
+certify_spec =
     tie.close
     (tie.spec
-    slot-of-requires
-    enum-known-slot
-    mul-e
-    element-copy-out-e
-    cast-with-certificate
-    with-certificate-requires
-    mul-t11
-    element-set-from-ledger
-    enum_told
-    returns
-    returns-2
-    returns-3)
+    slot_of-requires
+    enum_known-slot
+    offset_bounds-ledger-slot
+    bounds-ledger-slot
+    overflow_cast-code
+    with_certificate-requires
+    offset_bounds-ledger-slot-in-At
+    bounds-ledger-slot-in-At
+    enum_told-1
+    returns-then-code-gt2
+    returns-in-At
+    returns-in_default)

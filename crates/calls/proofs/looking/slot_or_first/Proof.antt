@@ -9,38 +9,38 @@ use Rattle.calls.proofs.looking.slot_or_first.Statement.{statement}
 use Rattle.calls.proofs.looking.slot_or_first.Tie as tie
 
 -- the place lies within the roster
-within : (c : tie.After-found) → c.found.given.0.0 < c.before.before.args.t1.len
-within c = let s = c.before.before in s.requires.1 c.found.given.0.0 c.found.given.1
+within : (c : tie.In-At) → c.in-At.k < c.args.roster.len
+within c = let s = c in s.requires.1 c.in-At.k c.in-At.is
 
-enum-known-found : tie.Need-enum-known-found
-enum-known-found c = search rules
+enum_known-found : tie.Need-enum_known-found
+enum_known-found c = search rules
 
-enum_told : tie.Need-enum-told
-enum_told c = search rules
+enum_told-1 : tie.Need-enum_told-1
+enum_told-1 c = search rules
 
-element-copy-out-result : tie.Need-element-copy-out-result
-element-copy-out-result c = search rules
+bounds-roster-0 : tie.Need-bounds-roster-0
+bounds-roster-0 c = search rules
+
+returns-in_default : tie.Need-returns-in_default
+returns-in_default c = let s = c in sym (ap (slot_or_first s.args.roster.slots) c.in_default.is)
+
+offset_bounds-roster-k : tie.Need-offset_bounds-roster-k
+offset_bounds-roster-k c = let f = c in omega (arith, within f, f.requires.0.room)
+
+bounds-roster-k : tie.Need-bounds-roster-k
+bounds-roster-k c = let f = c in omega (arith, within f, f.requires.0.room)
 
 returns : tie.Need-returns
-returns c = let s = c.before.before.before in sym (ap (slot_or_first s.args.t1.slots) c.before.enum_told.given.1)
+returns c = let f = c in sym (ap (slot_or_first f.args.roster.slots) f.in-At.is)
 
-mul-result : tie.Need-overflow-mul-result
-mul-result c = let f = c.before in omega (arith, within f, f.before.before.requires.0.room)
-
-element-copy-out-result-2 : tie.Need-element-copy-out-result-2
-element-copy-out-result-2 c = let f = c.before in omega (arith, within f, f.before.before.requires.0.room)
-
-returns-2 : tie.Need-returns-2
-returns-2 c = let f = c.before.before in sym (ap (slot_or_first f.before.before.args.t1.slots) f.found.given.1)
-
-pub slot-or-first-spec : {M : Type 1} → statement M
-slot-or-first-spec =
+pub slot_or_first_spec : {M : Type 1} → statement M
+slot_or_first_spec =
     tie.close
     (tie.spec
-    enum-known-found
-    enum_told
-    element-copy-out-result
-    returns
-    mul-result
-    element-copy-out-result-2
-    returns-2)
+    enum_known-found
+    enum_told-1
+    bounds-roster-0
+    returns-in_default
+    offset_bounds-roster-k
+    bounds-roster-k
+    returns)

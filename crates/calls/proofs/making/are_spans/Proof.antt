@@ -8,30 +8,30 @@ use borrow.Author.Rules.{rules}
 use Rattle.calls.proofs.making.are_spans.Statement.{statement}
 use Rattle.calls.proofs.making.are_spans.Tie as tie
 
-is-span-requires : tie.Need-is-span-requires
-is-span-requires c κs = search rules
+is_span-requires : tie.Need-is_span-requires
+is_span-requires c κs = search rules
+
+returns-then-not-is_span : tie.Need-returns-then-not-is_span
+returns-then-not-is_span c =
+    let a = c.args in
+    first_fails (is_span a.validity) (is_span a.core_span) (is_span a.leg_span) (sym c.is_span.ensures ∙ not-true _ c.if-not-is_span.true-raw)
+
+is_span-requires-2 : tie.Need-is_span-requires-2
+is_span-requires-2 c κs = search rules
+
+returns-then-not-is_span-2 : tie.Need-returns-then-not-is_span-2
+returns-then-not-is_span-2 c =
+    let a = c.args in
+    second_fails (is_span a.validity) (is_span a.core_span) (is_span a.leg_span) (sym c.is_span.ensures ∙ not-false _ c.if-not-is_span.false-raw) (sym c.is_span-2.ensures ∙ not-true _ c.if-not-is_span-2.true-raw)
+
+is_span-requires-3 : tie.Need-is_span-requires-3
+is_span-requires-3 c κs = search rules
 
 returns : tie.Need-returns
 returns c =
-    let a = c.before.before.args in
-    first_fails (is_span a.validity) (is_span a.core-span) (is_span a.leg-span) (sym c.before.is-span.ensures ∙ not-true _ c.if1.true)
+    third_says _ _ _ _ (sym c.is_span.ensures ∙ not-false _ c.if-not-is_span.false-raw) (sym c.is_span-2.ensures ∙ not-false _ c.if-not-is_span-2.false-raw) c.is_span-3.ensures
 
-is-span-requires-2 : tie.Need-is-span-requires-2
-is-span-requires-2 c κs = search rules
-
-returns-2 : tie.Need-returns-2
-returns-2 c =
-    let a = c.before.before.before.before.args in
-    second_fails (is_span a.validity) (is_span a.core-span) (is_span a.leg-span) (sym c.before.before.before.is-span.ensures ∙ not-false _ c.before.before.if1.false) (sym c.before.is-span2.ensures ∙ not-true _ c.if2.true)
-
-is-span-requires-3 : tie.Need-is-span-requires-3
-is-span-requires-3 c κs = search rules
-
-returns-3 : tie.Need-returns-3
-returns-3 c =
-    third_says _ _ _ _ (sym c.before.before.before.before.is-span.ensures ∙ not-false _ c.before.before.before.if1.false) (sym c.before.before.is-span2.ensures ∙ not-false _ c.before.if2.false) c.is-span3.ensures
-
-pub are-spans-spec : {M : Type 1} → statement M
-are-spans-spec =
+pub are_spans_spec : {M : Type 1} → statement M
+are_spans_spec =
     tie.close
-    (tie.spec is-span-requires returns is-span-requires-2 returns-2 is-span-requires-3 returns-3)
+    (tie.spec is_span-requires returns-then-not-is_span is_span-requires-2 returns-then-not-is_span-2 is_span-requires-3 returns)

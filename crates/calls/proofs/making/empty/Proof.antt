@@ -6,21 +6,21 @@ use borrow.Author.Rules.{rules}
 use Rattle.calls.proofs.making.empty.Statement.{statement}
 use Rattle.calls.proofs.making.empty.Tie as tie
 
-blank-requires : tie.Need-blank-requires
-blank-requires c κs = search rules
+blank-e-requires : tie.Need-blank-e-requires
+blank-e-requires c κs = search rules
 
-new-requires : tie.Need-new-requires
-new-requires c κs = search rules
+new-roster-requires : tie.Need-new-roster-requires
+new-roster-requires c κs = search rules
 
-new-requires-2 : tie.Need-new-requires-2
-new-requires-2 c κs = search rules
+new-issuers-requires : tie.Need-new-issuers-requires
+new-issuers-requires c κs = search rules
 
-new-requires-3 : tie.Need-new-requires-3
-new-requires-3 c κs = search rules
+new-departures-requires : tie.Need-new-departures-requires
+new-departures-requires c κs = search rules
 
 returns : tie.Need-returns
 returns c =
-    fresh _ c.before.before.new.ensures refl (every_replicate 48 _ c.before.before.before.blank.ensures) c.before.new2.ensures c.new3.ensures refl
+    fresh _ c.new-roster.ensures refl (every_replicate 48 _ c.blank-e.ensures) c.new-issuers.ensures c.new-departures.ensures refl
 
-pub empty-spec : {M : Type 1} → statement M
-empty-spec = tie.close (tie.spec blank-requires new-requires new-requires-2 new-requires-3 returns)
+pub empty_spec : {M : Type 1} → statement M
+empty_spec = tie.close (tie.spec blank-e-requires new-roster-requires new-issuers-requires new-departures-requires returns)

@@ -7,52 +7,50 @@ use borrow.Author.Rules.{rules}
 use Rattle.calls.proofs.making.new.Statement.{statement}
 use Rattle.calls.proofs.making.new.Tie as tie
 
-is-shard-requires : tie.Need-is-shard-requires
-is-shard-requires c κs = search rules
+is_shard-requires : tie.Need-is_shard-requires
+is_shard-requires c κs = search rules
 
-empty-requires : tie.Need-empty-requires
-empty-requires c κs = search rules
+empty-ledger-requires : tie.Need-empty-ledger-requires
+empty-ledger-requires c κs = search rules
+
+returns-then-not-is_shard : tie.Need-returns-then-not-is_shard
+returns-then-not-is_shard c =
+    let a = c.args in
+    let shard = sym c.is_shard.ensures ∙ not-true _ c.if-not-is_shard.true-raw in
+    not_made a.local.0 a.validity a.core_span a.leg_span 0 c.empty-ledger.result c.empty-ledger.ensures (no_shard a.local.0 a.validity a.core_span a.leg_span shard)
+
+are_spans-requires : tie.Need-are_spans-requires
+are_spans-requires c κs = search rules
+
+empty-ledger-requires-then-not-are_spans : tie.Need-empty-ledger-requires-then-not-are_spans
+empty-ledger-requires-then-not-are_spans c κs = search rules
+
+returns-then-not-are_spans : tie.Need-returns-then-not-are_spans
+returns-then-not-are_spans c =
+    let a = c.args in
+    let shard = sym c.is_shard.ensures ∙ not-false _ c.if-not-is_shard.false-raw in
+    let spans = sym c.are_spans.ensures ∙ not-true _ c.if-not-are_spans.true-raw in
+    not_made a.local.0 a.validity a.core_span a.leg_span 1 c.empty-ledger-then-not-are_spans.result c.empty-ledger-then-not-are_spans.ensures (no_span a.local.0 a.validity a.core_span a.leg_span shard spans)
+
+empty-ledger-requires-2 : tie.Need-empty-ledger-requires-2
+empty-ledger-requires-2 c κs = search rules
 
 returns : tie.Need-returns
 returns c =
-    let a = c.before.before.before.args in
-    let shard = sym c.before.before.is-shard.ensures ∙ not-true _ c.before.if1.true in
-    not_made a.local.0 a.validity a.core-span a.leg-span 0 c.empty.result c.empty.ensures (no_shard a.local.0 a.validity a.core-span a.leg-span shard)
-
-are-spans-requires : tie.Need-are-spans-requires
-are-spans-requires c κs = search rules
-
-empty-requires-2 : tie.Need-empty-requires-2
-empty-requires-2 c κs = search rules
-
-returns-2 : tie.Need-returns-2
-returns-2 c =
-    let e = c.before.before.before in
-    let a = e.before.before.args in
-    let shard = sym e.before.is-shard.ensures ∙ not-false _ e.if1.false in
-    let spans = sym c.before.before.are-spans.ensures ∙ not-true _ c.before.if2.true in
-    not_made a.local.0 a.validity a.core-span a.leg-span 1 c.empty2.result c.empty2.ensures (no_span a.local.0 a.validity a.core-span a.leg-span shard spans)
-
-empty-requires-3 : tie.Need-empty-requires-3
-empty-requires-3 c κs = search rules
-
-returns-3 : tie.Need-returns-3
-returns-3 c =
-    let e = c.before.before.before in
-    let a = e.before.before.args in
-    let shard = sym e.before.is-shard.ensures ∙ not-false _ e.if1.false in
-    let spans = sym c.before.before.are-spans.ensures ∙ not-false _ c.before.if2.false in
-    made a.local.0 a.validity a.core-span a.leg-span c.empty3.result c.empty3.ensures (all_right a.local.0 a.validity a.core-span a.leg-span shard spans)
+    let a = c.args in
+    let shard = sym c.is_shard.ensures ∙ not-false _ c.if-not-is_shard.false-raw in
+    let spans = sym c.are_spans.ensures ∙ not-false _ c.if-not-are_spans.false-raw in
+    made a.local.0 a.validity a.core_span a.leg_span c.empty-ledger-2.result c.empty-ledger-2.ensures (all_right a.local.0 a.validity a.core_span a.leg_span shard spans)
 
 pub new_spec : {M : Type 1} → statement M
 new_spec =
     tie.close
     (tie.spec
-    is-shard-requires
-    empty-requires
-    returns
-    are-spans-requires
-    empty-requires-2
-    returns-2
-    empty-requires-3
-    returns-3)
+    is_shard-requires
+    empty-ledger-requires
+    returns-then-not-is_shard
+    are_spans-requires
+    empty-ledger-requires-then-not-are_spans
+    returns-then-not-are_spans
+    empty-ledger-requires-2
+    returns)

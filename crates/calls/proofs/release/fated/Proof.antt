@@ -11,79 +11,71 @@ use Rattle.calls.proofs.release.fated.Statement.{statement}
 use Rattle.calls.proofs.release.fated.Tie as tie
 
 -- the transaction was found
-there : (c : tie.After-k) → AtSlot c.before.before.before.before.args.t1 (number_of c.before.before.before.before.args.tx) c.k.given.0.0
+there : (c : tie.In-At) → AtSlot c.args.ledger (number_of c.args.tx) c.in-At.k
 there c =
-    let s = c.before.before.before.before in
-    found_at s.args.t1 s.requires (number_of s.args.tx) c.k.given.0.0 (sym c.before.before.find.ensures ∙ c.k.given.1)
+    found_at c.args.ledger c.requires (number_of c.args.tx) c.in-At.k (sym c.find.ensures ∙ c.in-At.is)
 
 find-requires : tie.Need-find-requires
 find-requires c κs = search rules
 
-enum-known-k : tie.Need-enum-known-k
-enum-known-k c = search rules
+enum_known-k : tie.Need-enum_known-k
+enum_known-k c = search rules
 
-enum_told : tie.Need-enum-told
-enum_told c = search rules
+enum_told-1 : tie.Need-enum_told-1
+enum_told-1 c = search rules
 
-returns-3 : tie.Need-returns-3
-returns-3 c =
-    let s = c.before.before.before.before in
-    fated_unknown s.args.t1 s.requires (number_of s.args.tx) (sym c.before.before.find.ensures ∙ c.enum_told.given.1)
+returns-in_default : tie.Need-returns-in_default
+returns-in_default c =
+    fated_unknown c.args.ledger c.requires (number_of c.args.tx) (sym c.find.ensures ∙ c.in_default.is)
 
-mul-slot : tie.Need-overflow-mul-slot
-mul-slot c = omega (arith, (there c.before).place, c.before.before.before.before.before.requires.roster.room)
+offset_bounds-roster-k : tie.Need-offset_bounds-roster-k
+offset_bounds-roster-k c = omega (arith, (there c).place, c.requires.roster.room)
 
-element-copy-out-slot : tie.Need-element-copy-out-slot
-element-copy-out-slot c = omega (arith, (there c.before).place, c.before.before.before.before.before.requires.roster.room)
+bounds-roster-k : tie.Need-bounds-roster-k
+bounds-roster-k c = omega (arith, (there c).place, c.requires.roster.room)
 
-mul-e : tie.Need-overflow-mul-e
-mul-e c = omega (arith, (there c.before.before).slot)
+offset_bounds-ledger-slot : tie.Need-offset_bounds-ledger-slot
+offset_bounds-ledger-slot c = omega (arith, (there c.before).slot)
 
-element-copy-out-e : tie.Need-element-copy-out-e
-element-copy-out-e c = (there c.before.before).slot
+bounds-ledger-slot : tie.Need-bounds-ledger-slot
+bounds-ledger-slot c = (there c.before).slot
 
-is-leg-requires : tie.Need-is-leg-requires
-is-leg-requires c κs = search rules
+is_leg-requires : tie.Need-is_leg-requires
+is_leg-requires c κs = search rules
 
-returns-2 : tie.Need-returns-2
+returns-else-is_leg : tie.Need-returns-else-is_leg
 unfolding plain_entry
-returns-2 c =
-    let k = c.before.before.before.before.before in
-    let s = k.before.before.before.before in
-    fated_other s.args.t1 s.requires (number_of s.args.tx) k.k.given.0.0 _ (sym k.before.before.find.ensures ∙ k.k.given.1)
-    (sym c.before.is-leg.ensures ∙ c.if1.false)
+returns-else-is_leg c =
+    fated_other c.args.ledger c.requires (number_of c.args.tx) c.in-At.k _ (sym c.find.ensures ∙ c.in-At.is)
+    (sym c.is_leg.ensures ∙ c.if-is_leg.false)
 
-remove-at-requires : tie.Need-remove-at-requires
-remove-at-requires c κs =
-    let k = c.before.before.before.before.before.before in
-    (k.before.before.before.before.requires.roster, (there k).place)
+remove_at-ledger-requires : tie.Need-remove_at-ledger-requires
+remove_at-ledger-requires c κs =
+    (c.requires.roster, (there c.before.before.before.before.before).place)
 
-without-requires : tie.Need-without-requires
-without-requires c κs = search rules
+without-ledger-requires : tie.Need-without-ledger-requires
+without-ledger-requires c κs = search rules
 
-returns : tie.Need-returns
+returns-then-is_leg : tie.Need-returns-then-is_leg
 unfolding plain_entry
-returns c =
-    let e = c.before.before.before in
-    let k = e.before.before.before.before.before in
-    let s = k.before.before.before.before in
-    fated-leg s.args.t1 s.requires (number_of s.args.tx) k.k.given.0.0 _ (sym k.before.before.find.ensures ∙ k.k.given.1)
-    (sym e.before.is-leg.ensures ∙ e.if1.true) c.before.remove-at.result c.without.result c.before.remove-at.ensures c.without.ensures
+returns-then-is_leg c =
+    fated-leg c.args.ledger c.requires (number_of c.args.tx) c.in-At.k _ (sym c.find.ensures ∙ c.in-At.is)
+    (sym c.is_leg.ensures ∙ c.if-is_leg.true) c.remove_at-ledger.result c.without-ledger.result c.remove_at-ledger.ensures c.without-ledger.ensures
 
-pub fated-spec : {M : Type 1} → statement M
-fated-spec =
+pub fated_spec : {M : Type 1} → statement M
+fated_spec =
     tie.close
     (tie.spec
     find-requires
-    enum-known-k
-    mul-slot
-    element-copy-out-slot
-    mul-e
-    element-copy-out-e
-    is-leg-requires
-    remove-at-requires
-    without-requires
-    enum_told
-    returns
-    returns-2
-    returns-3)
+    enum_known-k
+    offset_bounds-roster-k
+    bounds-roster-k
+    offset_bounds-ledger-slot
+    bounds-ledger-slot
+    is_leg-requires
+    remove_at-ledger-requires
+    without-ledger-requires
+    enum_told-1
+    returns-then-is_leg
+    returns-else-is_leg
+    returns-in_default)

@@ -11,39 +11,35 @@ use Rattle.calls.proofs.release.forget.Tie as tie
 find-requires : tie.Need-find-requires
 find-requires c κs = search rules
 
-enum-known-k : tie.Need-enum-known-k
-enum-known-k c = search rules
+enum_known-k : tie.Need-enum_known-k
+enum_known-k c = search rules
 
-enum_told : tie.Need-enum-told
-enum_told c = search rules
+enum_told-1 : tie.Need-enum_told-1
+enum_told-1 c = search rules
 
-returns-2 : tie.Need-returns-2
-returns-2 c =
-    let s = c.before.before.before.before in
-    forget_unknown s.args.ledger s.requires (number_of s.args.tx) (sym c.before.before.find.ensures ∙ c.enum_told.given.1)
+returns-in_default : tie.Need-returns-in_default
+returns-in_default c =
+    forget_unknown c.args.ledger c.requires (number_of c.args.tx) (sym c.find.ensures ∙ c.in_default.is)
 
-remove-at-requires : tie.Need-remove-at-requires
-remove-at-requires c κs =
-    let s = c.before.before.before.before.before.before in
-    (s.requires.roster, (found_at s.args.ledger s.requires (number_of s.args.tx) c.before.before.k.given.0.0 (sym c.before.before.before.before.find.ensures ∙ c.before.before.k.given.1)).place)
+remove_at-ledger-requires : tie.Need-remove_at-ledger-requires
+remove_at-ledger-requires c κs =
+    (c.requires.roster, (found_at c.args.ledger c.requires (number_of c.args.tx) c.in-At.k (sym c.find.ensures ∙ c.in-At.is)).place)
 
-without-requires : tie.Need-without-requires
-without-requires c κs = search rules
+without-ledger-requires : tie.Need-without-ledger-requires
+without-ledger-requires c κs = search rules
 
-returns : tie.Need-returns
-returns c =
-    let s = c.before.before.before.before.before.before.before.before in
-    let k = c.before.before.before.before in
-    forget-owed s.args.ledger s.requires (number_of s.args.tx) k.k.given.0.0 (sym k.before.before.find.ensures ∙ k.k.given.1) c.before.remove-at.result c.without.result c.before.remove-at.ensures c.without.ensures
+returns-in-At : tie.Need-returns-in-At
+returns-in-At c =
+    forget-owed c.args.ledger c.requires (number_of c.args.tx) c.in-At.k (sym c.find.ensures ∙ c.in-At.is) c.remove_at-ledger.result c.without-ledger.result c.remove_at-ledger.ensures c.without-ledger.ensures
 
-pub forget-spec : {M : Type 1} → statement M
-forget-spec =
+pub forget_spec : {M : Type 1} → statement M
+forget_spec =
     tie.close
     (tie.spec
     find-requires
-    enum-known-k
-    remove-at-requires
-    without-requires
-    enum_told
-    returns
-    returns-2)
+    enum_known-k
+    remove_at-ledger-requires
+    without-ledger-requires
+    enum_told-1
+    returns-in-At
+    returns-in_default)

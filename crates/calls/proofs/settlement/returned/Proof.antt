@@ -11,55 +11,50 @@ use Rattle.calls.proofs.settlement.returned.Statement.{statement}
 use Rattle.calls.proofs.settlement.returned.Tie as tie
 
 -- the slot is one
-there : (c : tie.After-slot-or-first) → c.slot-or-first.result < 48
+there : (c : tie.After-slot_or_first-slot) → c.slot_or_first-slot.result < 48
 there c =
-    let s = c.before.before.before in
-    rw c.slot-or-first.ensures (slot_in s.args.t1 s.requires (number_of s.args.tx) c.before.find.result (sym c.before.find.ensures))
+    rw c.slot_or_first-slot.ensures (slot_in c.args.ledger c.requires (number_of c.args.tx) c.find-found.result (sym c.find-found.ensures))
 
-find-requires : tie.Need-find-requires
-find-requires c κs = search rules
+find-found-requires : tie.Need-find-found-requires
+find-found-requires c κs = search rules
 
-slot-or-first-requires : tie.Need-slot-or-first-requires
-slot-or-first-requires c κs = let s = c.before.before in (s.requires.roster, within s.args.t1 s.requires (number_of s.args.tx) c.find.result (sym c.find.ensures))
+slot_or_first-slot-requires : tie.Need-slot_or_first-slot-requires
+slot_or_first-slot-requires c κs = let s = c in (s.requires.roster, within s.args.ledger s.requires (number_of s.args.tx) c.find-found.result (sym c.find-found.ensures))
 
-mul-e : tie.Need-overflow-mul-e
-mul-e c = omega (arith, there c)
+offset_bounds-ledger-slot : tie.Need-offset_bounds-ledger-slot
+offset_bounds-ledger-slot c = omega (arith, there c)
 
-element-copy-out-e : tie.Need-element-copy-out-e
-element-copy-out-e c = there c
+bounds-ledger-slot : tie.Need-bounds-ledger-slot
+bounds-ledger-slot c = there c
 
 marked-requires : tie.Need-marked-requires
 unfolding contents
 marked-requires c κs =
-    let o = c.before.before in
-    let s = o.before.before.before in
-    let f = sym o.before.find.ensures in
-    rw o.slot-or-first.ensures
-    (fits_there s.args.t1 s.requires (number_of s.args.tx) o.before.find.result f _, good_there s.args.t1 s.requires (number_of s.args.tx) o.before.find.result f _)
+    let f = sym c.find-found.ensures in
+    rw c.slot_or_first-slot.ensures
+    (fits_there c.args.ledger c.requires (number_of c.args.tx) c.find-found.result f _, good_there c.args.ledger c.requires (number_of c.args.tx) c.find-found.result f _)
 
-mul-t9 : tie.Need-overflow-mul-t9
-mul-t9 c = omega (arith, there c.before.before.before)
+offset_bounds-ledger-slot-2 : tie.Need-offset_bounds-ledger-slot-2
+offset_bounds-ledger-slot-2 c = omega (arith, there c.before.before.before)
 
-element-set-from-ledger : tie.Need-element-set-from-ledger
-element-set-from-ledger c = there c.before.before.before
+bounds-ledger-slot-2 : tie.Need-bounds-ledger-slot-2
+bounds-ledger-slot-2 c = there c.before.before.before
 
 returns : tie.Need-returns
 returns c =
-    let o = c.before.before.before in
-    let s = o.before.before.before in
-    let f = o.before.find.result in
-    rw o.slot-or-first.ensures
-    ((rw o.slot-or-first.ensures at c.marked.ensures) s.args.t1 (number_of s.args.tx) refl (looked s.args.t1 s.requires (number_of s.args.tx) f (sym o.before.find.ensures) _))
+    let f = c.find-found.result in
+    rw c.slot_or_first-slot.ensures
+    ((rw c.slot_or_first-slot.ensures at c.marked.ensures) c.args.ledger (number_of c.args.tx) refl (looked c.args.ledger c.requires (number_of c.args.tx) f (sym c.find-found.ensures) _))
 
-pub returned-spec : {M : Type 1} → statement M
-returned-spec =
+pub returned_spec : {M : Type 1} → statement M
+returned_spec =
     tie.close
     (tie.spec
-    find-requires
-    slot-or-first-requires
-    mul-e
-    element-copy-out-e
+    find-found-requires
+    slot_or_first-slot-requires
+    offset_bounds-ledger-slot
+    bounds-ledger-slot
     marked-requires
-    mul-t9
-    element-set-from-ledger
+    offset_bounds-ledger-slot-2
+    bounds-ledger-slot-2
     returns)

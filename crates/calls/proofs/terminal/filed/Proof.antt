@@ -6,26 +6,20 @@ use borrow.Author.Rules.{rules}
 use Rattle.calls.proofs.terminal.filed.Statement.{statement}
 use Rattle.calls.proofs.terminal.filed.Tie as tie
 
-departed-requires : tie.Need-departed-requires
-departed-requires c κs = search rules
+departed-known-requires : tie.Need-departed-known-requires
+departed-known-requires c κs = search rules
 
 stamped-requires : tie.Need-stamped-requires
 stamped-requires c κs =
-    let d = c.before in
-    let s = d.before in
-    (d.departed.ensures.sound, rises_after s.args.shard.0 s.args.cut.0 s.args.stamped s.args.until.0 s.args.departures s.requires.1 d.departed.result d.departed.ensures)
+    (c.departed-known.ensures.sound, rises_after c.args.shard.0 c.args.cut.0 c.args.stamped c.args.until.0 c.args.departures c.requires.1 c.departed-known.result c.departed-known.ensures)
 
-returns : tie.Need-returns
-returns c =
-    let d = c.before in
-    let s = d.before in
-    filed_open s.args.shard.0 s.args.cut.0 s.args.stamped s.args.until.0 s.args.departures (omega arith) d.departed.result d.departed.ensures
+returns-then-stamped-eq0 : tie.Need-returns-then-stamped-eq0
+returns-then-stamped-eq0 c =
+    filed_open c.args.shard.0 c.args.cut.0 c.args.stamped c.args.until.0 c.args.departures (omega arith) c.departed-known.result c.departed-known.ensures
 
-returns-2 : tie.Need-returns-2
-returns-2 c =
-    let d = c.before.before in
-    let s = d.before in
-    filed_dated s.args.shard.0 s.args.cut.0 s.args.stamped s.args.until.0 s.args.departures (omega arith) d.departed.result c.stamped.result d.departed.ensures c.stamped.ensures
+returns-else-stamped-eq0 : tie.Need-returns-else-stamped-eq0
+returns-else-stamped-eq0 c =
+    filed_dated c.args.shard.0 c.args.cut.0 c.args.stamped c.args.until.0 c.args.departures (omega arith) c.departed-known.result c.stamped.result c.departed-known.ensures c.stamped.ensures
 
-pub filed-spec : {M : Type 1} → statement M
-filed-spec = tie.close (tie.spec departed-requires stamped-requires returns returns-2)
+pub filed_spec : {M : Type 1} → statement M
+filed_spec = tie.close (tie.spec departed-known-requires stamped-requires returns-then-stamped-eq0 returns-else-stamped-eq0)

@@ -15,21 +15,19 @@ use Rattle.calls.proofs.terminal.has_room.Tie as tie
 find-requires : tie.Need-find-requires
 find-requires c κs = search rules
 
-enum_told : tie.Need-enum-told
-enum_told c = search rules
+enum_told-1 : tie.Need-enum_told-1
+enum_told-1 c = search rules
 
-enum-told-2 : tie.Need-enum-told-2
-enum-told-2 c = search rules
+enum_told-in_default : tie.Need-enum_told-in_default
+enum_told-in_default c = search rules
+
+returns-in_default : tie.Need-returns-in_default
+returns-in_default c =
+    room-known (length (on_file c.args.departures)) (has shard_of c.args.shard.0 (on_file c.args.departures)) (located shard_of c.args.shard.0 (on_file c.args.departures) _ (sym c.find.ensures ∙ c.in_default.is)).known
 
 returns : tie.Need-returns
 returns c =
-    let s = c.before.before.before in
-    room-known (length (on_file s.args.departures)) (has shard_of s.args.shard.0 (on_file s.args.departures)) (located shard_of s.args.shard.0 (on_file s.args.departures) _ (sym c.before.before.find.ensures ∙ c.enum-told2.given.1)).known
+    room_new c.args.departures.len (length (on_file c.args.departures)) (has shard_of c.args.shard.0 (on_file c.args.departures)) (missing shard_of c.args.shard.0 (on_file c.args.departures) (sym c.find.ensures ∙ c.in-Nothing.is)).known (file-length c.args.departures c.requires)
 
-returns-2 : tie.Need-returns-2
-returns-2 c =
-    let s = c.before.before.before.before in
-    room_new s.args.departures.len (length (on_file s.args.departures)) (has shard_of s.args.shard.0 (on_file s.args.departures)) (missing shard_of s.args.shard.0 (on_file s.args.departures) (sym c.before.before.before.find.ensures ∙ c.before.enum_told.given.1)).known (file-length s.args.departures s.requires)
-
-pub has-room-spec : {M : Type 1} → statement M
-has-room-spec = tie.close (tie.spec find-requires enum_told enum-told-2 returns returns-2)
+pub has_room_spec : {M : Type 1} → statement M
+has_room_spec = tie.close (tie.spec find-requires enum_told-1 enum_told-in_default returns-in_default returns)

@@ -6,14 +6,14 @@ use borrow.Author.Rules.{rules}
 use Rattle.calls.proofs.terminal.is_until.Statement.{statement}
 use Rattle.calls.proofs.terminal.is_until.Tie as tie
 
+returns-then-stamped-eq0 : tie.Need-returns-then-stamped-eq0
+returns-then-stamped-eq0 c = rw (eq-eqb c.args.stamped 0 (omega arith))
+
+is_time-requires : tie.Need-is_time-requires
+is_time-requires c κs = search rules
+
 returns : tie.Need-returns
-returns c = rw (eq-eqb c.before.args.stamped 0 (omega arith))
+returns c = rw (ne_eqb c.args.stamped 0 (omega arith)) c.is_time.ensures
 
-is-time-requires : tie.Need-is-time-requires
-is-time-requires c κs = search rules
-
-returns-2 : tie.Need-returns-2
-returns-2 c = rw (ne_eqb c.before.before.args.stamped 0 (omega arith)) c.is-time.ensures
-
-pub is-until-spec : {M : Type 1} → statement M
-is-until-spec = tie.close (tie.spec returns is-time-requires returns-2)
+pub is_until_spec : {M : Type 1} → statement M
+is_until_spec = tie.close (tie.spec returns-then-stamped-eq0 is_time-requires returns)

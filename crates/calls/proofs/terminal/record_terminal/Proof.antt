@@ -17,47 +17,39 @@ use Rattle.calls.proofs.terminal.record_terminal.Statement.{statement}
 use Rattle.calls.proofs.terminal.record_terminal.Tie as tie
 
 -- nothing is wrong with the words
-well_formed : (c : tie.Then1) → 0 ≡ words_refusal c.before.before.args.shard.0 c.before.before.args.cut.0 c.before.before.args.stamped c.before.before.args.until.0
-well_formed c = let z : 0 ≡ c.before.refusal.result = omega arith in z ∙ c.before.refusal.ensures
+well_formed : (c : tie.Then-refused-eq0) → 0 ≡ words_refusal c.args.shard.0 c.args.cut.0 c.args.stamped c.args.until.0
+well_formed c = let z : 0 ≡ c.refusal-refused.result = omega arith in z ∙ c.refusal-refused.ensures
 
 -- and there is room
-roomy : (c : tie.Then2) → has shard_of c.before.before.before.before.before.args.shard.0 (contents c.before.before.before.before.before.args.ledger).departures || not (leb 32 (length (contents c.before.before.before.before.before.args.ledger).departures)) ≡ true
+roomy : (c : tie.Then-has_room) → has shard_of c.args.shard.0 (contents c.before.before.before.before.before.args.ledger).departures || not (leb 32 (length (contents c.before.before.before.before.before.args.ledger).departures)) ≡ true
 unfolding contents
-roomy c = sym c.before.has_room.ensures ∙ c.if2.true
+roomy c = sym c.has_room.ensures ∙ c.if-has_room.true
 
-refusal-requires : tie.Need-refusal-requires
-refusal-requires c κs = search rules
+refusal-refused-requires : tie.Need-refusal-refused-requires
+refusal-refused-requires c κs = search rules
 
-has-room-requires : tie.Need-has-room-requires
-has-room-requires c κs = search rules
+has_room-requires : tie.Need-has_room-requires
+has_room-requires c κs = search rules
 
-filed-requires : tie.Need-filed-requires
-filed-requires c κs =
-    let e = c.before.before.before in
-    let s = e.before.before in
-    (s.requires.departures, file_rises s.args.ledger s.requires, room s.args.ledger s.requires s.args.shard.0 s.args.cut.0 s.args.stamped s.args.until.0 (well_formed e) (roomy c))
+filed-known-requires : tie.Need-filed-known-requires
+filed-known-requires c κs =
+    (c.requires.departures, file_rises c.args.ledger c.requires, room c.args.ledger c.requires c.args.shard.0 c.args.cut.0 c.args.stamped c.args.until.0 (well_formed c.before.before.before) (roomy c))
 
-returns : tie.Need-returns
-returns c =
-    let o = c.before in
-    let e = o.before.before.before in
-    let s = e.before.before in
+returns-then-has_room : tie.Need-returns-then-has_room
+returns-then-has_room c =
     unrefused _ 0 _ _ [] [] (omega arith)
-    (terminal_filed s.args.ledger s.requires s.args.shard.0 s.args.cut.0 s.args.stamped s.args.until.0 (well_formed e) (roomy o) c.filed.result c.filed.ensures)
+    (terminal_filed c.args.ledger c.requires c.args.shard.0 c.args.cut.0 c.args.stamped c.args.until.0 (well_formed c.before.before.before.before) (roomy c.before) c.filed-known.result c.filed-known.ensures)
 
-returns-2 : tie.Need-returns-2
+returns-else-has_room : tie.Need-returns-else-has_room
 unfolding contents
-returns-2 c =
-    let e = c.before.before.before in
-    let s = e.before.before in
-    terminal_full s.args.ledger s.requires s.args.shard.0 s.args.cut.0 s.args.stamped s.args.until.0 (well_formed e) (sym c.before.has_room.ensures ∙ c.if2.false)
+returns-else-has_room c =
+    terminal_full c.args.ledger c.requires c.args.shard.0 c.args.cut.0 c.args.stamped c.args.until.0 (well_formed c.before.before.before) (sym c.has_room.ensures ∙ c.if-has_room.false)
 
-returns-3 : tie.Need-returns-3
-returns-3 c =
-    let s = c.before.before in
-    terminal-refused s.args.ledger s.requires s.args.shard.0 s.args.cut.0 s.args.stamped s.args.until.0 c.before.refusal.result c.before.refusal.ensures (omega arith)
+returns-else-refused-eq0 : tie.Need-returns-else-refused-eq0
+returns-else-refused-eq0 c =
+    terminal-refused c.args.ledger c.requires c.args.shard.0 c.args.cut.0 c.args.stamped c.args.until.0 c.refusal-refused.result c.refusal-refused.ensures (omega arith)
 
-pub record-terminal-spec : {M : Type 1} → statement M
-record-terminal-spec =
+pub record_terminal_spec : {M : Type 1} → statement M
+record_terminal_spec =
     tie.close
-    (tie.spec refusal-requires has-room-requires filed-requires returns returns-2 returns-3)
+    (tie.spec refusal-refused-requires has_room-requires filed-known-requires returns-then-has_room returns-else-has_room returns-else-refused-eq0)

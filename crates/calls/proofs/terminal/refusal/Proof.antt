@@ -8,52 +8,47 @@ use borrow.Author.Rules.{rules}
 use Rattle.calls.proofs.terminal.refusal.Statement.{statement}
 use Rattle.calls.proofs.terminal.refusal.Tie as tie
 
+returns-then-stamped-gt1 : tie.Need-returns-then-stamped-gt1
+returns-then-stamped-gt1 c = let a = c.args in words_code a.shard.0 a.cut.0 a.stamped a.until.0 (omega arith)
+
+is_time-requires : tie.Need-is_time-requires
+is_time-requires c κs = search rules
+
+returns-then-not-is_time : tie.Need-returns-then-not-is_time
+returns-then-not-is_time c =
+    let a = c.args in
+    words-cut a.shard.0 a.cut.0 a.stamped a.until.0 (omega arith) (sym c.is_time.ensures ∙ not-true _ c.if-not-is_time.true-raw)
+
+is_until-requires : tie.Need-is_until-requires
+is_until-requires c κs = search rules
+
+returns-then-not-is_until : tie.Need-returns-then-not-is_until
+returns-then-not-is_until c =
+    let a = c.args in
+    words_until a.shard.0 a.cut.0 a.stamped a.until.0 (omega arith) (sym c.is_time.ensures ∙ not-false _ c.if-not-is_time.false-raw) (sym c.is_until.ensures ∙ not-true _ c.if-not-is_until.true-raw)
+
+is_shard-requires : tie.Need-is_shard-requires
+is_shard-requires c κs = search rules
+
+returns-then-not-is_shard : tie.Need-returns-then-not-is_shard
+returns-then-not-is_shard c =
+    let a = c.args in
+    words-shard a.shard.0 a.cut.0 a.stamped a.until.0 (omega arith) (sym c.is_time.ensures ∙ not-false _ c.if-not-is_time.false-raw) (sym c.is_until.ensures ∙ not-false _ c.if-not-is_until.false-raw) (sym c.is_shard.ensures ∙ not-true _ c.if-not-is_shard.true-raw)
+
 returns : tie.Need-returns
-returns c = let a = c.before.args in words_code a.shard.0 a.cut.0 a.stamped a.until.0 (omega arith)
+returns c =
+    let a = c.args in
+    words-none a.shard.0 a.cut.0 a.stamped a.until.0 (omega arith) (sym c.is_time.ensures ∙ not-false _ c.if-not-is_time.false-raw) (sym c.is_until.ensures ∙ not-false _ c.if-not-is_until.false-raw) (sym c.is_shard.ensures ∙ not-false _ c.if-not-is_shard.false-raw)
 
-is-time-requires : tie.Need-is-time-requires
-is-time-requires c κs = search rules
-
-returns-2 : tie.Need-returns-2
-returns-2 c =
-    let a = c.before.before.before.args in
-    words-cut a.shard.0 a.cut.0 a.stamped a.until.0 (omega arith) (sym c.before.is-time.ensures ∙ not-true _ c.if2.true)
-
-is-until-requires : tie.Need-is-until-requires
-is-until-requires c κs = search rules
-
-returns-3 : tie.Need-returns-3
-returns-3 c =
-    let e = c.before.before in
-    let a = e.before.before.before.args in
-    words_until a.shard.0 a.cut.0 a.stamped a.until.0 (omega arith) (sym e.before.is-time.ensures ∙ not-false _ e.if2.false) (sym c.before.is-until.ensures ∙ not-true _ c.if3.true)
-
-is-shard-requires : tie.Need-is-shard-requires
-is-shard-requires c κs = search rules
-
-returns-4 : tie.Need-returns-4
-returns-4 c =
-    let f = c.before.before in
-    let e = f.before.before in
-    let a = e.before.before.before.args in
-    words-shard a.shard.0 a.cut.0 a.stamped a.until.0 (omega arith) (sym e.before.is-time.ensures ∙ not-false _ e.if2.false) (sym f.before.is-until.ensures ∙ not-false _ f.if3.false) (sym c.before.is-shard.ensures ∙ not-true _ c.if4.true)
-
-returns-5 : tie.Need-returns-5
-returns-5 c =
-    let f = c.before.before in
-    let e = f.before.before in
-    let a = e.before.before.before.args in
-    words-none a.shard.0 a.cut.0 a.stamped a.until.0 (omega arith) (sym e.before.is-time.ensures ∙ not-false _ e.if2.false) (sym f.before.is-until.ensures ∙ not-false _ f.if3.false) (sym c.before.is-shard.ensures ∙ not-false _ c.if4.false)
-
-pub refusal-spec : {M : Type 1} → statement M
-refusal-spec =
+pub refusal_spec : {M : Type 1} → statement M
+refusal_spec =
     tie.close
     (tie.spec
-    returns
-    is-time-requires
-    returns-2
-    is-until-requires
-    returns-3
-    is-shard-requires
-    returns-4
-    returns-5)
+    returns-then-stamped-gt1
+    is_time-requires
+    returns-then-not-is_time
+    is_until-requires
+    returns-then-not-is_until
+    is_shard-requires
+    returns-then-not-is_shard
+    returns)

@@ -6,20 +6,20 @@ use borrow.Author.Rules.{rules}
 use Rattle.calls.proofs.terminal.stamp_refusal.Statement.{statement}
 use Rattle.calls.proofs.terminal.stamp_refusal.Tie as tie
 
-is-time-requires : tie.Need-is-time-requires
-is-time-requires c κs = search rules
+is_time-requires : tie.Need-is_time-requires
+is_time-requires c κs = search rules
 
-returns : tie.Need-returns
-returns c = rw (sym c.before.is-time.ensures ∙ not-true _ c.if1.true)
+returns-then-not-is_time : tie.Need-returns-then-not-is_time
+returns-then-not-is_time c = rw (sym c.is_time.ensures ∙ not-true _ c.if-not-is_time.true-raw)
 
-is-shard-requires : tie.Need-is-shard-requires
-is-shard-requires c κs = search rules
+is_shard-requires : tie.Need-is_shard-requires
+is_shard-requires c κs = search rules
 
-returns-2 : tie.Need-returns-2
-returns-2 c = let e = c.before.before in rw (sym e.before.is-time.ensures ∙ not-false _ e.if1.false, sym c.before.is-shard.ensures ∙ c.if2.true)
+returns-then-is_shard : tie.Need-returns-then-is_shard
+returns-then-is_shard c = let e = c in rw (sym e.is_time.ensures ∙ not-false _ e.if-not-is_time.false-raw, sym c.is_shard.ensures ∙ c.if-is_shard.true)
 
-returns-3 : tie.Need-returns-3
-returns-3 c = let e = c.before.before in rw (sym e.before.is-time.ensures ∙ not-false _ e.if1.false, sym c.before.is-shard.ensures ∙ c.if2.false)
+returns-else-is_shard : tie.Need-returns-else-is_shard
+returns-else-is_shard c = let e = c in rw (sym e.is_time.ensures ∙ not-false _ e.if-not-is_time.false-raw, sym c.is_shard.ensures ∙ c.if-is_shard.false)
 
-pub stamp-refusal-spec : {M : Type 1} → statement M
-stamp-refusal-spec = tie.close (tie.spec is-time-requires returns is-shard-requires returns-2 returns-3)
+pub stamp_refusal_spec : {M : Type 1} → statement M
+stamp_refusal_spec = tie.close (tie.spec is_time-requires returns-then-not-is_time is_shard-requires returns-then-is_shard returns-else-is_shard)

@@ -9,23 +9,20 @@ use borrow.Author.Rules.{rules}
 use Rattle.calls.proofs.terminal.stamp_terminal.Statement.{statement}
 use Rattle.calls.proofs.terminal.stamp_terminal.Tie as tie
 
-stamp-refusal-requires : tie.Need-stamp-refusal-requires
-stamp-refusal-requires c κs = search rules
+stamp_refusal-refused-requires : tie.Need-stamp_refusal-refused-requires
+stamp_refusal-refused-requires c κs = search rules
 
-stamped-requires : tie.Need-stamped-requires
-stamped-requires c κs = let s = c.before.before.before in (s.requires.departures, file_rises s.args.ledger s.requires)
+stamped-ledger-requires : tie.Need-stamped-ledger-requires
+stamped-ledger-requires c κs = let s = c in (s.requires.departures, file_rises s.args.ledger s.requires)
 
-returns : tie.Need-returns
-returns c =
-    let r = c.before.before.before in
-    let s = r.before in
-    let none : r.stamp-refusal.result ≡ 0 = omega arith in
-    unrefused _ 0 _ _ [] [] none (stamp-known s.args.ledger s.requires s.args.shard.0 s.args.until.0 (sym r.stamp-refusal.ensures ∙ none) c.stamped.result c.stamped.ensures)
+returns-then-refused-eq0 : tie.Need-returns-then-refused-eq0
+returns-then-refused-eq0 c =
+    let none : c.stamp_refusal-refused.result ≡ 0 = omega arith in
+    unrefused _ 0 _ _ [] [] none (stamp-known c.args.ledger c.requires c.args.shard.0 c.args.until.0 (sym c.stamp_refusal-refused.ensures ∙ none) c.stamped-ledger.result c.stamped-ledger.ensures)
 
-returns-2 : tie.Need-returns-2
-returns-2 c =
-    let s = c.before.before in
-    stamp-refused s.args.ledger s.requires s.args.shard.0 s.args.until.0 c.before.stamp-refusal.result c.before.stamp-refusal.ensures (omega arith)
+returns-else-refused-eq0 : tie.Need-returns-else-refused-eq0
+returns-else-refused-eq0 c =
+    stamp-refused c.args.ledger c.requires c.args.shard.0 c.args.until.0 c.stamp_refusal-refused.result c.stamp_refusal-refused.ensures (omega arith)
 
-pub stamp-terminal-spec : {M : Type 1} → statement M
-stamp-terminal-spec = tie.close (tie.spec stamp-refusal-requires stamped-requires returns returns-2)
+pub stamp_terminal_spec : {M : Type 1} → statement M
+stamp_terminal_spec = tie.close (tie.spec stamp_refusal-refused-requires stamped-ledger-requires returns-then-refused-eq0 returns-else-refused-eq0)
