@@ -43,6 +43,7 @@ module _ (p : plain.Entry → Bool) where
   gone_test x (e ∷ es) a (Memᴰ.tail m) =
       rw (ne_eqb (transaction_of x) (transaction_of e) (omega (arith, above_member transaction_of (transaction_of e) es a.0 m)), and_false (not (p e)))
       (gone_test x es a.1 m)
+  gone_test x [] a x3 = elim x3 [ ]
 
   pub unnamed_index : (l : Ledger) → Held l → (bs : List Bool) (x : Issuers) → bs ≡ map p (entries_of l) →
       issuers.Holds (unnamed_by bs (keys_of l.roster) (pairs_in l.issuers)) x → issuers.Holds (index_of l.local.0 (keep p (entries_of l))) x

@@ -5,14 +5,14 @@ use borrow.Author.Tests.{lt-ltb, le-ltb}
 use Rattle.batches.proofs.items_of.Statement.{statement}
 use Rattle.batches.proofs.items_of.Tie as tie
 
+returns-then-refused-gt0 : tie.Need-returns-then-refused-gt0
+returns-then-refused-gt0 c = rw (lt-ltb _ _ c.if-refused-gt0.true)
+
+size_at-requires : tie.Need-size_at-requires
+size_at-requires c κs = search rules
+
 returns : tie.Need-returns
-returns c = rw (lt-ltb _ _ c.if1.true)
+returns c = rw (le-ltb _ _ c.if-refused-gt0.false, c.size_at.ensures)
 
-size-at-requires : tie.Need-size-at-requires
-size-at-requires c κs = search rules
-
-returns-2 : tie.Need-returns-2
-returns-2 c = rw (le-ltb _ _ c.before.if1.false, c.size-at.ensures)
-
-pub items-of-spec : {M : Type 1} → statement M
-items-of-spec = tie.close (tie.spec returns size-at-requires returns-2)
+pub items_of_spec : {M : Type 1} → statement M
+items_of_spec = tie.close (tie.spec returns-then-refused-gt0 size_at-requires returns)

@@ -15,120 +15,109 @@ use borrow.Author.Rules.{rules}
 use Rattle.batches.proofs.abandonment.count_new.Statement.{statement}
 use Rattle.batches.proofs.abandonment.count_new.Tie as tie
 
-abbrev invariant-loop : tie.invariant-loop
-invariant-loop roster words n count₀ i₀ count i = (i ≤ n) × (count ≤ i) × (count + to_come (keys_of roster) (transactions words) i ≡ length (new_to (keys_of roster) (transactions words)))
+abbrev invariant-loop-i : tie.invariant-loop-i
+invariant-loop-i roster words n count₀ i₀ count i = (i ≤ n) × (count ≤ i) × (count + to_come (keys_of roster) (transactions words) i ≡ length (new_to (keys_of roster) (transactions words)))
 
-abbrev decreases-loop : tie.decreases-loop
-decreases-loop roster words n count₀ i₀ count i = n - i
+abbrev decreases-loop-i : tie.decreases-loop-i
+decreases-loop-i roster words n count₀ i₀ count i = n - i
 
 -- how far the loop is
-few : (c : tie.In-loop invariant-loop decreases-loop) → (c.before.loop.i < group_count c.before.before.before.before.args.words.now) × (group_count c.before.before.before.before.args.words.now ≤ 48)
+few : (c : tie.In-loop-i invariant-loop-i decreases-loop-i) → (c.loop-i.i < group_count c.args.words.now) × (group_count c.args.words.now ≤ 48)
 few c =
-    let a = c.before.before.before.before in
-    (omega (arith, c.loop-test.true, c.before.before.size-at.ensures), (recorded a.args.words.now a.requires.1).few)
+    (omega (arith, c.loop-i-test.true, c.size_at-n.ensures), (recorded c.args.words.now c.requires.1).few)
 
 -- the group in hand is of the i-th transaction
-which : (c : tie.After-group-transaction invariant-loop decreases-loop) → c.group-transaction.result.0 ≡ get_or (transactions c.before.before.before.before.before.args.words.now) c.before.before.loop.i 0
+which : (c : tie.After-group_transaction-tx invariant-loop-i decreases-loop-i) → c.group_transaction-tx.result.0 ≡ get_or (transactions c.args.words.now) c.loop-i.i 0
 which c =
-    let a = c.before.before.before.before.before in
-    c.group-transaction.ensures ∙ transaction-at a.args.words.now a.requires.1 c.before.before.loop.i (few c.before).0
+    c.group_transaction-tx.ensures ∙ transaction-at c.args.words.now c.requires.1 c.loop-i.i (few c.before).0
 
-size-at-requires : tie.Need-size-at-requires invariant-loop decreases-loop
-size-at-requires c κs = search rules
+size_at-n-requires : tie.Need-size_at-n-requires invariant-loop-i decreases-loop-i
+size_at-n-requires c κs = search rules
 
-loop-holds : tie.Need-loop-init invariant-loop decreases-loop
-loop-holds c =
-    let a = c.before.before in
-    (search rules, search rules, omega (arith, count_start (keys_of a.args.roster) (transactions a.args.words.now)))
+loop-i-init : tie.Need-loop-i-init invariant-loop-i decreases-loop-i
+loop-i-init c =
+    (search rules, search rules, omega (arith, count_start (keys_of c.args.roster) (transactions c.args.words.now)))
 
-group-transaction-requires : tie.Need-group-transaction-requires invariant-loop decreases-loop
-group-transaction-requires c κs = (c.before.before.before.before.requires.1, (few c).0)
+group_transaction-tx-requires : tie.Need-group_transaction-tx-requires invariant-loop-i decreases-loop-i
+group_transaction-tx-requires c κs = (c.requires.1, (few c).0)
 
-add-i : tie.Need-overflow-add-i invariant-loop decreases-loop
-add-i c = omega (arith, few c.before)
+overflow_add-i : tie.Need-overflow_add-i invariant-loop-i decreases-loop-i
+overflow_add-i c = omega (arith, few c.before)
 
-find-requires : tie.Need-find-requires invariant-loop decreases-loop
-find-requires c κs = c.before.before.before.before.before.requires.0
+find-requires : tie.Need-find-requires invariant-loop-i decreases-loop-i
+find-requires c κs = c.requires.0
 
-enum_told : tie.Need-enum-told invariant-loop decreases-loop
-enum_told c = search rules
+enum_told-1 : tie.Need-enum_told-1 invariant-loop-i decreases-loop-i
+enum_told-1 c = search rules
 
-enum-told-2 : tie.Need-enum-told-2 invariant-loop decreases-loop
-enum-told-2 c = search rules
+enum_told-in_default : tie.Need-enum_told-in_default invariant-loop-i decreases-loop-i
+enum_told-in_default c = search rules
 
-loop-less : tie.Need-loop-smaller invariant-loop decreases-loop
-loop-less c = search rules
+loop-i-smaller-in_default : tie.Need-loop-i-smaller-in_default invariant-loop-i decreases-loop-i
+loop-i-smaller-in_default c = search rules
 
-loop-again : tie.Need-loop-preserved invariant-loop decreases-loop
-loop-again c =
-    let g = c.before.before.before in
-    let l = g.before.before.loop in
-    let a = g.before.before.before.before.before in
-    let ws = a.args.words.now in
-    let done = turn_owed (keys_of a.args.roster) (transactions ws) l.i (omega (arith, few g.before, transactions-length ws a.requires.1)) g.group-transaction.result.0 (which g)
-    (located self g.group-transaction.result.0 (keys_of a.args.roster) c.enum-told2.given.0.0 (sym c.before.before.find.ensures ∙ c.enum-told2.given.1)).known in
+loop-i-preserved-in_default : tie.Need-loop-i-preserved-in_default invariant-loop-i decreases-loop-i
+loop-i-preserved-in_default c =
+    let l = c.loop-i in
+    let ws = c.args.words.now in
+    let done = turn_owed (keys_of c.args.roster) (transactions ws) l.i (omega (arith, few c.before.before.before, transactions-length ws c.requires.1)) c.group_transaction-tx.result.0 (which c.before.before)
+    (located self c.group_transaction-tx.result.0 (keys_of c.args.roster) c.in_default.field-0 (sym c.find.ensures ∙ c.in_default.is)).known in
     (search rules, search rules, omega (arith, done, l.invariant.2))
 
-is-among-requires : tie.Need-is-among-requires invariant-loop decreases-loop
-is-among-requires c κs =
-    let w = c.before.before.before.before in
-    (w.before.before.before.before.requires.1, omega (arith, few w))
+is_among-requires : tie.Need-is_among-requires invariant-loop-i decreases-loop-i
+is_among-requires c κs =
+    (c.requires.1, omega (arith, few c.before.before.before))
 
-loop-less-2 : tie.Need-loop-smaller-2 invariant-loop decreases-loop
-loop-less-2 c = search rules
+loop-i-smaller-then-is_among : tie.Need-loop-i-smaller-then-is_among invariant-loop-i decreases-loop-i
+loop-i-smaller-then-is_among c = search rules
 
-loop-again-2 : tie.Need-loop-preserved-2 invariant-loop decreases-loop
-loop-again-2 c =
-    let g = c.before.before.before.before.before in
-    let l = g.before.before.loop in
-    let a = g.before.before.before.before.before in
-    let ws = a.args.words.now in
-    let done = turn_earlier (keys_of a.args.roster) (transactions ws) l.i (omega (arith, few g.before, transactions-length ws a.requires.1)) g.group-transaction.result.0 (which g)
-    (sym c.before.is_among.ensures ∙ c.if1.true) in
+loop-i-preserved-then-is_among : tie.Need-loop-i-preserved-then-is_among invariant-loop-i decreases-loop-i
+loop-i-preserved-then-is_among c =
+    let l = c.loop-i in
+    let ws = c.args.words.now in
+    let done = turn_earlier (keys_of c.args.roster) (transactions ws) l.i (omega (arith, few c.before.before.before.before.before, transactions-length ws c.requires.1)) c.group_transaction-tx.result.0 (which c.before.before.before.before)
+    (sym c.is_among.ensures ∙ c.if-is_among.true) in
     (search rules, search rules, omega (arith, done, l.invariant.2))
 
-add-count : tie.Need-overflow-add-count invariant-loop decreases-loop
-add-count c = omega (arith, few c.before.before.before.before.before.before, c.before.before.before.before.before.before.before.loop.invariant)
+overflow_add-count : tie.Need-overflow_add-count invariant-loop-i decreases-loop-i
+overflow_add-count c = omega (arith, few c.before.before.before.before.before, c.loop-i.invariant)
 
-loop-less-3 : tie.Need-loop-smaller-3 invariant-loop decreases-loop
-loop-less-3 c = search rules
+loop-i-smaller : tie.Need-loop-i-smaller invariant-loop-i decreases-loop-i
+loop-i-smaller c = search rules
 
-loop-again-3 : tie.Need-loop-preserved-3 invariant-loop decreases-loop
-loop-again-3 c =
-    let g = c.before.before.before.before.before in
-    let l = g.before.before.loop in
-    let a = g.before.before.before.before.before in
-    let ws = a.args.words.now in
-    let done = turn_new (keys_of a.args.roster) (transactions ws) l.i (omega (arith, few g.before, transactions-length ws a.requires.1)) g.group-transaction.result.0 (which g)
-    (missing self g.group-transaction.result.0 (keys_of a.args.roster) (sym c.before.before.before.before.find.ensures ∙ c.before.before.enum_told.given.1)).known (sym c.before.is_among.ensures ∙ c.if1.false) in
+loop-i-preserved : tie.Need-loop-i-preserved invariant-loop-i decreases-loop-i
+loop-i-preserved c =
+    let l = c.loop-i in
+    let ws = c.args.words.now in
+    let done = turn_new (keys_of c.args.roster) (transactions ws) l.i (omega (arith, few c.before.before.before.before.before, transactions-length ws c.requires.1)) c.group_transaction-tx.result.0 (which c.before.before.before.before)
+    (missing self c.group_transaction-tx.result.0 (keys_of c.args.roster) (sym c.find.ensures ∙ c.in-Nothing.is)).known (sym c.is_among.ensures ∙ c.if-is_among.false) in
     (search rules, search rules, omega (arith, done, l.invariant.2))
 
-returns : tie.Need-returns invariant-loop decreases-loop
+returns : tie.Need-returns invariant-loop-i decreases-loop-i
 returns c =
-    let l = c.before.loop in
-    let a = c.before.before.before.before in
-    let ws = a.args.words.now in
-    omega (arith, l.invariant.2, count-end (keys_of a.args.roster) (transactions ws) l.i (omega (arith, c.loop-test.false, c.before.before.size-at.ensures, transactions-length ws a.requires.1)))
+    let l = c.loop-i in
+    let ws = c.args.words.now in
+    omega (arith, l.invariant.2, count-end (keys_of c.args.roster) (transactions ws) l.i (omega (arith, c.loop-i-test.false, c.size_at-n.ensures, transactions-length ws c.requires.1)))
 
-pub count-new-spec : {M : Type 1} → statement M
-count-new-spec =
+pub count_new_spec : {M : Type 1} → statement M
+count_new_spec =
     tie.close
     (tie.spec
-    invariant-loop
-    decreases-loop
-    size-at-requires
-    loop-holds
-    group-transaction-requires
-    add-i
+    invariant-loop-i
+    decreases-loop-i
+    size_at-n-requires
+    loop-i-init
+    group_transaction-tx-requires
+    overflow_add-i
     find-requires
-    enum_told
-    enum-told-2
-    loop-less
-    loop-again
-    is-among-requires
-    loop-less-2
-    loop-again-2
-    add-count
-    loop-less-3
-    loop-again-3
+    enum_told-1
+    enum_told-in_default
+    loop-i-smaller-in_default
+    loop-i-preserved-in_default
+    is_among-requires
+    loop-i-smaller-then-is_among
+    loop-i-preserved-then-is_among
+    overflow_add-count
+    loop-i-smaller
+    loop-i-preserved
     returns)

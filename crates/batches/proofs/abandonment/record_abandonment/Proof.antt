@@ -20,11 +20,11 @@ use borrow.Author.Rules.{rules}
 use Rattle.batches.proofs.abandonment.record_abandonment.Statement.{statement}
 use Rattle.batches.proofs.abandonment.record_abandonment.Tie as tie
 
-abbrev invariant-loop : tie.invariant-loop
-invariant-loop words ledger₀ refused n shard at₀ rebuilt₀ i₀ ledger at rebuilt i = Going refused ledger₀ ledger rebuilt (Rebuilding ledger₀ words ledger at rebuilt i)
+abbrev invariant-loop-i : tie.invariant-loop-i
+invariant-loop-i words ledger₀ refused n shard at₀ rebuilt₀ i₀ ledger at rebuilt i = Going refused ledger₀ ledger rebuilt (Rebuilding ledger₀ words ledger at rebuilt i)
 
-abbrev decreases-loop : tie.decreases-loop
-decreases-loop words ledger₀ refused n shard at₀ rebuilt₀ i₀ ledger at rebuilt i = n - i
+abbrev decreases-loop-i : tie.decreases-loop-i
+decreases-loop-i words ledger₀ refused n shard at₀ rebuilt₀ i₀ ledger at rebuilt i = n - i
 
 -- where the turn stands among the words, which were not refused
 record Stands (l₀ : Ledger) (ws : List ℕ) (refused n : ℕ) (l : Ledger) (start rebuilt i : ℕ) : Type 0 where
@@ -37,17 +37,15 @@ record Stands (l₀ : Ledger) (ws : List ℕ) (refused n : ℕ) (l : Ledger) (st
   within : start + reach_at ws i ≤ length ws
   so : Rebuilding l₀ ws l start rebuilt i
 
-stands : (c : tie.In-loop invariant-loop decreases-loop) → Stands c.before.before.before.before.before.before.before.before.args.t1 c.before.before.before.before.before.before.before.before.args.words.now
-    c.before.before.before.before.before.refusal.result c.before.before.before.before.items_of.result c.before.loop.ledger c.before.loop.at c.before.loop.rebuilt c.before.loop.i
+stands : (c : tie.In-loop-i invariant-loop-i decreases-loop-i) → Stands c.args.ledger c.args.words.now
+    c.refusal-refused.result c.items_of-n.result c.loop-i.ledger c.loop-i.at c.loop-i.rebuilt c.loop-i.i
 stands c =
-    let n = c.before.before.before.before in
-    let s = n.before.before.before.before in
-    let ws = s.args.words.now in
-    let o = c.before.loop in
-    let t = turning n.before.refusal.result (group_count ws) n.items_of.result o.i n.items_of.ensures c.loop-test.true in
-    let p = passes_by s.args.t1 ws n.before.refusal.result s.requires n.before.refusal.ensures t.0 in
+    let ws = c.args.words.now in
+    let o = c.loop-i in
+    let t = turning c.refusal-refused.result (group_count ws) c.items_of-n.result o.i c.items_of-n.ensures c.loop-i-test.true in
+    let p = passes_by c.args.ledger ws c.refusal-refused.result c.requires c.refusal-refused.ensures t.0 in
     let v = o.invariant.goes t.0 in
-    let h : o.i < group_count ws = omega (arith, t.1, c.loop-test.true) in
+    let h : o.i < group_count ws = omega (arith, t.1, c.loop-i-test.true) in
     record {
       none = t.0;
       passed = p;
@@ -60,187 +58,171 @@ stands c =
     }
 
 -- the transaction was found
-there : (c : tie.After-k invariant-loop decreases-loop) → AtSlot c.before.before.before.before.before.before.before.before.loop.ledger (number_of c.before.before.before.before.before.before.group.result.tx) c.k.given.0.0
+there : (c : tie.In-At invariant-loop-i decreases-loop-i) → AtSlot c.loop-i.ledger (number_of c.group-e.result.tx) c.in-At.k
 there c =
-    let w = c.before.before.before.before.before.before.before in
-    found_at w.before.loop.ledger (stands w).so.doing.held _ c.k.given.0.0 (sym c.before.before.find.ensures ∙ c.k.given.1)
+    found_at c.loop-i.ledger (stands c.before.before.before.before.before.before).so.doing.held _ c.in-At.k (sym c.find.ensures ∙ c.in-At.is)
 
 -- it was not, and there is room
-room : (c : tie.After-enum-told invariant-loop decreases-loop) → c.before.before.before.before.before.before.before.before.loop.ledger.roster.len < 48
+room : (c : tie.In-Nothing invariant-loop-i decreases-loop-i) → c.loop-i.ledger.roster.len < 48
 room c =
-    let w = c.before.before.before.before.before.before.before in
-    let s = w.before.before.before.before.before.before.before.before in
-    let o = w.before.loop in
-    group_room s.args.t1 s.args.words.now (stands w).passed o.ledger o.at o.rebuilt o.i (stands w).so (stands w).group c.before.before.before.before.before.before.group.result c.before.before.before.before.before.before.group.ensures
-    (sym c.before.before.find.ensures ∙ c.enum_told.given.1)
+    let o = c.loop-i in
+    group_room c.args.ledger c.args.words.now (stands c.before.before.before.before.before.before).passed o.ledger o.at o.rebuilt o.i (stands c.before.before.before.before.before.before).so (stands c.before.before.before.before.before.before).group-e c.group-e.result c.group-e.ensures
+    (sym c.find.ensures ∙ c.in-Nothing.is)
 
 -- how many groups there are at most
-few : (c : tie.After-record-shard invariant-loop decreases-loop) → c.before.items_of.result ≤ 48
+few : (c : tie.After-record_shard-shard invariant-loop-i decreases-loop-i) → c.items_of-n.result ≤ 48
 few c =
-    let r = c.before.before in
-    let s = r.before.before.before in
-    groups_few s.args.t1 s.args.words.now r.refusal.result c.before.items_of.result s.requires r.refusal.ensures c.before.items_of.ensures
+    groups_few c.args.ledger c.args.words.now c.refusal-refused.result c.items_of-n.result c.requires c.refusal-refused.ensures c.items_of-n.ensures
 
-refusal-requires : tie.Need-refusal-requires invariant-loop decreases-loop
-refusal-requires c κs = c.before.before.requires.roster
+refusal-refused-requires : tie.Need-refusal-refused-requires invariant-loop-i decreases-loop-i
+refusal-refused-requires c κs = c.requires.roster
 
-items-of-requires : tie.Need-items-of-requires invariant-loop decreases-loop
-items-of-requires c κs = search rules
+items_of-n-requires : tie.Need-items_of-n-requires invariant-loop-i decreases-loop-i
+items_of-n-requires c κs = search rules
 
-record-shard-requires : tie.Need-record-shard-requires invariant-loop decreases-loop
-record-shard-requires c κs = search rules
+record_shard-shard-requires : tie.Need-record_shard-shard-requires invariant-loop-i decreases-loop-i
+record_shard-shard-requires c κs = search rules
 
-reaches-at-requires : tie.Need-reaches-at-requires invariant-loop decreases-loop
-reaches-at-requires c κs = few c
+reaches_at-at-requires : tie.Need-reaches_at-at-requires invariant-loop-i decreases-loop-i
+reaches_at-at-requires c κs = few c
 
-loop-holds : tie.Need-loop-init invariant-loop decreases-loop
-loop-holds c =
-    let r = c.before.before.before in
-    let s = r.before.before.before in
-    starts r.refusal.result s.args.t1 _
-    (λ e. rebuilding s.args.t1 s.args.words.now _ s.requires (passes_by s.args.t1 s.args.words.now r.refusal.result s.requires r.refusal.ensures e).formed
-    (c.reaches-at.ensures ∙ ap (λ m. 2 + m + 5 * m) (taken r.refusal.result _ _ c.before.before.items_of.ensures e)))
+loop-i-init : tie.Need-loop-i-init invariant-loop-i decreases-loop-i
+loop-i-init c =
+    starts c.refusal-refused.result c.args.ledger _
+    (λ e. rebuilding c.args.ledger c.args.words.now _ c.requires (passes_by c.args.ledger c.args.words.now c.refusal-refused.result c.requires c.refusal-refused.ensures e).formed
+    (c.reaches_at-at.ensures ∙ ap (λ m. 2 + m + 5 * m) (taken c.refusal-refused.result _ _ c.items_of-n.ensures e)))
 
-group-requires : tie.Need-group-requires invariant-loop decreases-loop
-group-requires c κs = ((stands c).passed.formed, (stands c).group, (stands c).so.reach)
+group-e-requires : tie.Need-group-e-requires invariant-loop-i decreases-loop-i
+group-e-requires c κs = ((stands c).passed.formed, (stands c).group-e, (stands c).so.reach)
 
-reach-at-requires : tie.Need-reach-at-requires invariant-loop decreases-loop
-reach-at-requires c κs = omega (arith, stands c.before)
+reach_at-at-requires : tie.Need-reach_at-at-requires invariant-loop-i decreases-loop-i
+reach_at-at-requires c κs = omega (arith, stands c.before)
 
-add_at : tie.Need-overflow-add-at invariant-loop decreases-loop
-add_at c = omega (arith, stands c.before.before, c.reach-at.ensures, c.before.before.before.before.before.before.before.before.before.before.well-formed)
+overflow_add-at : tie.Need-overflow_add-at invariant-loop-i decreases-loop-i
+overflow_add-at c = omega (arith, stands c.before.before, c.reach_at-at.ensures, c.well_formed)
 
-add-i : tie.Need-overflow-add-i invariant-loop decreases-loop
-add-i c = omega (arith, stands c.before.before)
+overflow_add-i : tie.Need-overflow_add-i invariant-loop-i decreases-loop-i
+overflow_add-i c = omega (arith, stands c.before.before)
 
-find-requires : tie.Need-find-requires invariant-loop decreases-loop
+find-requires : tie.Need-find-requires invariant-loop-i decreases-loop-i
 find-requires c κs = (stands c.before.before.before.before).so.doing.held.roster
 
-enum-known-k : tie.Need-enum-known-k invariant-loop decreases-loop
-enum-known-k c = search rules
+enum_known-k : tie.Need-enum_known-k invariant-loop-i decreases-loop-i
+enum_known-k c = search rules
 
-mul-slot : tie.Need-overflow-mul-slot invariant-loop decreases-loop
-mul-slot c = omega (arith, (there c.before).place, (stands c.before.before.before.before.before.before.before.before).so.doing.held.roster)
+offset_bounds-roster-k : tie.Need-offset_bounds-roster-k invariant-loop-i decreases-loop-i
+offset_bounds-roster-k c = omega (arith, (there c).place, (stands c.before.before.before.before.before.before).so.doing.held.roster)
 
-element-copy-out-slot : tie.Need-element-copy-out-slot invariant-loop decreases-loop
-element-copy-out-slot c = omega (arith, (there c.before).place, (stands c.before.before.before.before.before.before.before.before).so.doing.held.roster)
+bounds-roster-k : tie.Need-bounds-roster-k invariant-loop-i decreases-loop-i
+bounds-roster-k c = omega (arith, (there c).place, (stands c.before.before.before.before.before.before).so.doing.held.roster)
 
-mul-old : tie.Need-overflow-mul-old invariant-loop decreases-loop
-mul-old c = omega (arith, (there c.before.before).slot)
+offset_bounds-ledger-slot : tie.Need-offset_bounds-ledger-slot invariant-loop-i decreases-loop-i
+offset_bounds-ledger-slot c = omega (arith, (there c.before).slot)
 
-element-copy-out-old : tie.Need-element-copy-out-old invariant-loop decreases-loop
-element-copy-out-old c = (there c.before.before).slot
+bounds-ledger-slot : tie.Need-bounds-ledger-slot invariant-loop-i decreases-loop-i
+bounds-ledger-slot c = (there c.before).slot
 
-with-departed-by-requires : tie.Need-with-departed-by-requires invariant-loop decreases-loop
-with-departed-by-requires c κs = (there c.before.before.before).fits _
+with_departed_by-requires : tie.Need-with_departed_by-requires invariant-loop-i decreases-loop-i
+with_departed_by-requires c κs = (there c.before.before).fits _
 
-mul-t26 : tie.Need-overflow-mul-t26 invariant-loop decreases-loop
-mul-t26 c = omega (arith, (there c.before.before.before.before).slot)
+offset_bounds-ledger-slot-in-At : tie.Need-offset_bounds-ledger-slot-in-At invariant-loop-i decreases-loop-i
+offset_bounds-ledger-slot-in-At c = omega (arith, (there c.before.before.before).slot)
 
-element-set-from-ledger : tie.Need-element-set-from-ledger invariant-loop decreases-loop
-element-set-from-ledger c = (there c.before.before.before.before).slot
+bounds-ledger-slot-in-At : tie.Need-bounds-ledger-slot-in-At invariant-loop-i decreases-loop-i
+bounds-ledger-slot-in-At c = (there c.before.before.before).slot
 
-loop-less : tie.Need-loop-smaller invariant-loop decreases-loop
-loop-less c = omega (arith, stands c.before.before.before.before.before.before.before.before.before.before.before)
+loop-i-smaller-in-At : tie.Need-loop-i-smaller-in-At invariant-loop-i decreases-loop-i
+loop-i-smaller-in-At c = omega (arith, stands c.before.before.before.before.before.before.before.before.before)
 
-loop-again : tie.Need-loop-preserved invariant-loop decreases-loop
-loop-again c =
-    let k = c.before.before.before.before in
-    let w = k.before.before.before.before.before.before.before in
-    let s = w.before.before.before.before.before.before.before.before in
-    let o = w.before.loop in
-    rw k.before.before.before.before.before.reach-at.ensures
-    (goes_on w.before.before.before.before.before.refusal.result s.args.t1 _ _ _ (stands w).none
-    (group_owed s.args.t1 s.args.words.now (stands w).passed o.ledger o.at o.rebuilt o.i (stands w).so (stands w).group k.before.before.before.before.before.before.group.result k.before.before.before.before.before.before.group.ensures
-    k.k.given.0.0 _ c.with-departed-by.result (sym k.before.before.find.ensures ∙ k.k.given.1) (rw w.before.before.before.record-shard.ensures at c.with-departed-by.ensures)))
+loop-i-preserved-in-At : tie.Need-loop-i-preserved-in-At invariant-loop-i decreases-loop-i
+loop-i-preserved-in-At c =
+    let o = c.loop-i in
+    rw c.reach_at-at.ensures
+    (goes_on c.refusal-refused.result c.args.ledger _ _ _ (stands c.before.before.before.before.before.before.before.before.before).none
+    (group_owed c.args.ledger c.args.words.now (stands c.before.before.before.before.before.before.before.before.before).passed o.ledger o.at o.rebuilt o.i (stands c.before.before.before.before.before.before.before.before.before).so (stands c.before.before.before.before.before.before.before.before.before).group-e c.group-e.result c.group-e.ensures
+    c.in-At.k _ c.with_departed_by.result (sym c.find.ensures ∙ c.in-At.is) (rw c.record_shard-shard.ensures at c.with_departed_by.ensures)))
 
-enum_told : tie.Need-enum-told invariant-loop decreases-loop
-enum_told c = search rules
+enum_told-1 : tie.Need-enum_told-1 invariant-loop-i decreases-loop-i
+enum_told-1 c = search rules
 
-mul-slot-2 : tie.Need-overflow-mul-slot-2 invariant-loop decreases-loop
-mul-slot-2 c = omega (arith, room c)
+offset_bounds-roster-end : tie.Need-offset_bounds-roster-end invariant-loop-i decreases-loop-i
+offset_bounds-roster-end c = omega (arith, room c)
 
-element-copy-out-slot-2 : tie.Need-element-copy-out-slot-2 invariant-loop decreases-loop
-element-copy-out-slot-2 c = omega (arith, room c)
+bounds-roster-end : tie.Need-bounds-roster-end invariant-loop-i decreases-loop-i
+bounds-roster-end c = omega (arith, room c)
 
-rank-requires : tie.Need-rank-requires invariant-loop decreases-loop
-rank-requires c κs = (stands c.before.before.before.before.before.before.before.before).so.doing.held.roster
+rank-requires : tie.Need-rank-requires invariant-loop-i decreases-loop-i
+rank-requires c κs = (stands c.before.before.before.before.before.before.before).so.doing.held.roster
 
-insert-at-requires : tie.Need-insert-at-requires invariant-loop decreases-loop
-insert-at-requires c κs =
-    let w = c.before.before.before.before.before.before.before.before.before in
-    ((stands w).so.doing.held.roster, omega (arith, c.rank.ensures, ranks_within w.before.loop.ledger (stands w).so.doing.held (number_of c.before.before.before.before.before.before.before.before.group.result.tx)), room c.before.before)
+insert_at-ledger-requires : tie.Need-insert_at-ledger-requires invariant-loop-i decreases-loop-i
+insert_at-ledger-requires c κs =
+    ((stands c.before.before.before.before.before.before.before.before).so.doing.held.roster, omega (arith, c.rank.ensures, ranks_within c.loop-i.ledger (stands c.before.before.before.before.before.before.before.before).so.doing.held (number_of c.group-e.result.tx)), room c.before.before)
 
-mul-e : tie.Need-overflow-mul-e invariant-loop decreases-loop
-mul-e c = let w = c.before.before.before.before.before.before.before.before.before.before in omega (arith, free_slot_lem w.before.loop.ledger (stands w).so.doing.held (room c.before.before.before))
+offset_bounds-ledger-slot-in-Nothing : tie.Need-offset_bounds-ledger-slot-in-Nothing invariant-loop-i decreases-loop-i
+offset_bounds-ledger-slot-in-Nothing c = let w = c in omega (arith, free_slot_lem w.loop-i.ledger (stands w.before.before.before.before.before.before.before.before.before).so.doing.held (room c.before.before.before))
 
-element-set-from-e : tie.Need-element-set-from-e invariant-loop decreases-loop
-element-set-from-e c = let w = c.before.before.before.before.before.before.before.before.before.before in free_slot_lem w.before.loop.ledger (stands w).so.doing.held (room c.before.before.before)
+bounds-ledger-slot-in-Nothing : tie.Need-bounds-ledger-slot-in-Nothing invariant-loop-i decreases-loop-i
+bounds-ledger-slot-in-Nothing c = let w = c in free_slot_lem w.loop-i.ledger (stands w.before.before.before.before.before.before.before.before.before).so.doing.held (room c.before.before.before)
 
-add-rebuilt : tie.Need-overflow-add-rebuilt invariant-loop decreases-loop
-add-rebuilt c = omega (arith, stands c.before.before.before.before.before.before.before.before.before.before, rebuilt-few _ _ _ _ _ _ (stands c.before.before.before.before.before.before.before.before.before.before).passed.formed (stands c.before.before.before.before.before.before.before.before.before.before).so)
+overflow_add-rebuilt : tie.Need-overflow_add-rebuilt invariant-loop-i decreases-loop-i
+overflow_add-rebuilt c = omega (arith, stands c.before.before.before.before.before.before.before.before.before, rebuilt-few _ _ _ _ _ _ (stands c.before.before.before.before.before.before.before.before.before).passed.formed (stands c.before.before.before.before.before.before.before.before.before).so)
 
-loop-less-2 : tie.Need-loop-smaller-2 invariant-loop decreases-loop
-loop-less-2 c = omega (arith, stands c.before.before.before.before.before.before.before.before.before.before)
+loop-i-smaller : tie.Need-loop-i-smaller invariant-loop-i decreases-loop-i
+loop-i-smaller c = omega (arith, stands c.before.before.before.before.before.before.before.before.before)
 
-loop-again-2 : tie.Need-loop-preserved-2 invariant-loop decreases-loop
-loop-again-2 c =
-    let e = c.before.before.before in
-    let w = e.before.before.before.before.before.before.before in
-    let s = w.before.before.before.before.before.before.before.before in
-    let o = w.before.loop in
-    let words = all_words_lem s.args.words.now (λ j. omega (arith, w.before.before.before.before.before.before.before.shared-slice-known.given j)) in
-    rw e.before.before.before.before.before.reach-at.ensures
-    (goes_on w.before.before.before.before.before.refusal.result s.args.t1 _ _ _ (stands w).none
-    (group_new s.args.t1 s.args.words.now (stands w).passed o.ledger o.at o.rebuilt o.i (stands w).so (stands w).group e.before.before.before.before.before.before.group.result e.before.before.before.before.before.before.group.ensures
-    words c.before.rank.result c.insert-at.result (sym e.before.before.find.ensures ∙ e.enum_told.given.1) c.before.rank.ensures c.insert-at.ensures))
+loop-i-preserved : tie.Need-loop-i-preserved invariant-loop-i decreases-loop-i
+loop-i-preserved c =
+    let o = c.loop-i in
+    let words = all_words_lem c.args.words.now (λ j. omega (arith, c.shared_slice_known-1.given j)) in
+    rw c.reach_at-at.ensures
+    (goes_on c.refusal-refused.result c.args.ledger _ _ _ (stands c.before.before.before.before.before.before.before.before.before).none
+    (group_new c.args.ledger c.args.words.now (stands c.before.before.before.before.before.before.before.before.before).passed o.ledger o.at o.rebuilt o.i (stands c.before.before.before.before.before.before.before.before.before).so (stands c.before.before.before.before.before.before.before.before.before).group-e c.group-e.result c.group-e.ensures
+    words c.rank.result c.insert_at-ledger.result (sym c.find.ensures ∙ c.in-Nothing.is) c.rank.ensures c.insert_at-ledger.ensures))
 
-capped-requires : tie.Need-capped-requires invariant-loop decreases-loop
+capped-requires : tie.Need-capped-requires invariant-loop-i decreases-loop-i
 capped-requires c κs = search rules
 
-returns : tie.Need-returns invariant-loop decreases-loop
+returns : tie.Need-returns invariant-loop-i decreases-loop-i
 returns c =
-    let o = c.before.before.loop in
-    let n = c.before.before.before.before.before in
-    let s = n.before.before.before.before in
-    rebuilds s.args.t1 s.args.words.now o.ledger n.before.refusal.result n.items_of.result o.at o.rebuilt o.i c.capped.result s.requires n.before.refusal.ensures
-    n.items_of.ensures o.invariant c.before.loop-test.false c.capped.ensures
+    let o = c.loop-i in
+    rebuilds c.args.ledger c.args.words.now o.ledger c.refusal-refused.result c.items_of-n.result o.at o.rebuilt o.i c.capped.result c.requires c.refusal-refused.ensures
+    c.items_of-n.ensures o.invariant c.loop-i-test.false c.capped.ensures
 
-pub record-abandonment-spec : {M : Type 1} → statement M
-record-abandonment-spec =
+pub record_abandonment_spec : {M : Type 1} → statement M
+record_abandonment_spec =
     tie.close
     (tie.spec
-    invariant-loop
-    decreases-loop
-    refusal-requires
-    items-of-requires
-    record-shard-requires
-    reaches-at-requires
-    loop-holds
-    group-requires
-    reach-at-requires
-    add_at
-    add-i
+    invariant-loop-i
+    decreases-loop-i
+    refusal-refused-requires
+    items_of-n-requires
+    record_shard-shard-requires
+    reaches_at-at-requires
+    loop-i-init
+    group-e-requires
+    reach_at-at-requires
+    overflow_add-at
+    overflow_add-i
     find-requires
-    enum-known-k
-    mul-slot
-    element-copy-out-slot
-    mul-old
-    element-copy-out-old
-    with-departed-by-requires
-    mul-t26
-    element-set-from-ledger
-    loop-less
-    loop-again
-    enum_told
-    mul-slot-2
-    element-copy-out-slot-2
+    enum_known-k
+    offset_bounds-roster-k
+    bounds-roster-k
+    offset_bounds-ledger-slot
+    bounds-ledger-slot
+    with_departed_by-requires
+    offset_bounds-ledger-slot-in-At
+    bounds-ledger-slot-in-At
+    loop-i-smaller-in-At
+    loop-i-preserved-in-At
+    enum_told-1
+    offset_bounds-roster-end
+    bounds-roster-end
     rank-requires
-    insert-at-requires
-    mul-e
-    element-set-from-e
-    add-rebuilt
-    loop-less-2
-    loop-again-2
+    insert_at-ledger-requires
+    offset_bounds-ledger-slot-in-Nothing
+    bounds-ledger-slot-in-Nothing
+    overflow_add-rebuilt
+    loop-i-smaller
+    loop-i-preserved
     capped-requires
     returns)

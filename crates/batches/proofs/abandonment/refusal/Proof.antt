@@ -13,76 +13,71 @@ use borrow.Author.Rules.{rules}
 use Rattle.batches.proofs.abandonment.refusal.Statement.{statement}
 use Rattle.batches.proofs.abandonment.refusal.Tie as tie
 
-formed : (c : tie.Else1) → record_formed c.before.before.before.args.words.now ≡ true
-formed c = sym c.before.record-formed.ensures ∙ not-false _ c.if1.false
+formed : (c : tie.Else-not-record_formed) → record_formed c.args.words.now ≡ true
+formed c = sym c.record_formed.ensures ∙ not-false _ c.if-not-record_formed.false-raw
 
-timed : (c : tie.Else2) → record_timed c.before.before.before.before.before.args.words.now ≡ true
-timed c = sym c.before.record-timed.ensures ∙ not-false _ c.if2.false
+timed : (c : tie.Else-not-record_timed) → record_timed c.args.words.now ≡ true
+timed c = sym c.record_timed.ensures ∙ not-false _ c.if-not-record_timed.false-raw
 
-placed : (c : tie.Else3) → is_shard (record_shard c.before.before.before.before.before.before.before.before.args.words.now) ≡ true
-placed c = ap is_shard (sym c.before.before.record-shard.ensures) ∙ sym c.before.is-shard.ensures ∙ not-false _ c.if3.false
+placed : (c : tie.Else-not-is_shard) → is_shard (record_shard c.args.words.now) ≡ true
+placed c = ap is_shard (sym c.record_shard-shard.ensures) ∙ sym c.is_shard.ensures ∙ not-false _ c.if-not-is_shard.false-raw
 
-record-formed-requires : tie.Need-record-formed-requires
-record-formed-requires c κs = search rules
+record_formed-requires : tie.Need-record_formed-requires
+record_formed-requires c κs = search rules
 
-returns : tie.Need-returns
-returns c =
-    let f : record_formed c.before.before.before.args.words.now ≡ false = sym c.before.record-formed.ensures ∙ not-true _ c.if1.true in
+returns-then-not-record_formed : tie.Need-returns-then-not-record_formed
+returns-then-not-record_formed c =
+    let f : record_formed c.args.words.now ≡ false = sym c.record_formed.ensures ∙ not-true _ c.if-not-record_formed.true-raw in
     rw f
 
-record-timed-requires : tie.Need-record-timed-requires
-record-timed-requires c κs = formed c
+record_timed-requires : tie.Need-record_timed-requires
+record_timed-requires c κs = formed c
 
-returns-2 : tie.Need-returns-2
-returns-2 c =
-    let t : record_timed c.before.before.before.before.before.args.words.now ≡ false = sym c.before.record-timed.ensures ∙ not-true _ c.if2.true in
+returns-then-not-record_timed : tie.Need-returns-then-not-record_timed
+returns-then-not-record_timed c =
+    let t : record_timed c.args.words.now ≡ false = sym c.record_timed.ensures ∙ not-true _ c.if-not-record_timed.true-raw in
     rw (formed c.before.before, t)
 
-record-shard-requires : tie.Need-record-shard-requires
-record-shard-requires c κs = search rules
+record_shard-shard-requires : tie.Need-record_shard-shard-requires
+record_shard-shard-requires c κs = search rules
 
-is-shard-requires : tie.Need-is-shard-requires
-is-shard-requires c κs = search rules
+is_shard-requires : tie.Need-is_shard-requires
+is_shard-requires c κs = search rules
 
-returns-3 : tie.Need-returns-3
-returns-3 c =
-    let e = c.before.before.before in
-    let s : is_shard (record_shard e.before.before.before.before.before.args.words.now) ≡ false =
-    ap is_shard (sym c.before.before.record-shard.ensures) ∙ sym c.before.is-shard.ensures ∙ not-true _ c.if3.true in
-    rw (formed e.before.before, timed e, s)
+returns-then-not-is_shard : tie.Need-returns-then-not-is_shard
+returns-then-not-is_shard c =
+    let s : is_shard (record_shard c.args.words.now) ≡ false =
+    ap is_shard (sym c.record_shard-shard.ensures) ∙ sym c.is_shard.ensures ∙ not-true _ c.if-not-is_shard.true-raw in
+    rw (formed c.before.before.before.before.before, timed c.before.before.before, s)
 
-count-new-requires : tie.Need-count-new-requires
-count-new-requires c κs = (c.before.before.before.before.before.before.before.before.requires, formed c.before.before.before.before.before)
+count_new-new-requires : tie.Need-count_new-new-requires
+count_new-new-requires c κs = (c.requires, formed c.before.before.before.before.before)
 
-sub-if4 : tie.Need-overflow-sub-if4
-sub-if4 c = omega (arith, c.before.before.before.before.before.before.before.before.before.before.requires.room)
+overflow_sub-roster : tie.Need-overflow_sub-roster
+overflow_sub-roster c = omega (arith, c.requires.room)
 
-returns-4 : tie.Need-returns-4
-returns-4 c =
-    let e = c.before.before.before in
-    let a = e.before.before.before.before.before.before.before.before in
-    let len : length (keys_of a.args.roster) ≡ a.args.roster.len = length-take-le a.args.roster.len a.args.roster.keys (omega (arith, a.requires.room, a.requires.key_length)) in
-    rw (formed e.before.before.before.before.before, timed e.before.before.before, placed e, len, sym c.before.before.count-new.ensures, lt-ltb _ _ c.if4.true)
+returns-then-roster-new : tie.Need-returns-then-roster-new
+returns-then-roster-new c =
+    let len : length (keys_of c.args.roster) ≡ c.args.roster.len = length-take-le c.args.roster.len c.args.roster.keys (omega (arith, c.requires.room, c.requires.key_length)) in
+    rw (formed c.before.before.before.before.before.before.before.before, timed c.before.before.before.before.before.before, placed c.before.before.before, len, sym c.count_new-new.ensures, lt-ltb _ _ c.if-roster-new.true)
 
-returns-5 : tie.Need-returns-5
-returns-5 c =
-    let e = c.before.before.before in
-    let a = e.before.before.before.before.before.before.before.before in
-    let len : length (keys_of a.args.roster) ≡ a.args.roster.len = length-take-le a.args.roster.len a.args.roster.keys (omega (arith, a.requires.room, a.requires.key_length)) in
-    rw (formed e.before.before.before.before.before, timed e.before.before.before, placed e, len, sym c.before.before.count-new.ensures, le-ltb _ _ c.if4.false)
+returns-else-roster-new : tie.Need-returns-else-roster-new
+returns-else-roster-new c =
+    let len : length (keys_of c.args.roster) ≡ c.args.roster.len = length-take-le c.args.roster.len c.args.roster.keys (omega (arith, c.requires.room, c.requires.key_length)) in
+    rw (formed c.before.before.before.before.before.before.before.before, timed c.before.before.before.before.before.before, placed c.before.before.before, len, sym c.count_new-new.ensures, le-ltb _ _ c.if-roster-new.false)
 
-pub refusal-spec : {M : Type 1} → statement M
-refusal-spec =
+pub refusal_spec : {M : Type 1} → statement M
+refusal_spec =
     tie.close
     (tie.spec
-    record-formed-requires
-    returns
-    record-timed-requires
-    returns-2
-    record-shard-requires
-    is-shard-requires
-    returns-3
-    count-new-requires
-    sub-if4
-    returns-4
-    returns-5)
+    record_formed-requires
+    returns-then-not-record_formed
+    record_timed-requires
+    returns-then-not-record_timed
+    record_shard-shard-requires
+    is_shard-requires
+    returns-then-not-is_shard
+    count_new-new-requires
+    overflow_sub-roster
+    returns-then-roster-new
+    returns-else-roster-new)

@@ -5,36 +5,33 @@ use borrow.Author.Tests.{eq-eqb, ne_eqb, le-leb, lt-leb}
 use Rattle.batches.proofs.finalization.decide.Statement.{statement}
 use Rattle.batches.proofs.finalization.decide.Tie as tie
 
-returns : tie.Need-returns
-returns c = rw (eq-eqb _ 1 c.before.match.keys1, c.if1.true)
+returns-then-is_open : tie.Need-returns-then-is_open
+returns-then-is_open c = rw (eq-eqb _ 1 c.in-1.is, c.if-is_open.true)
 
-returns-2 : tie.Need-returns-2
-returns-2 c = rw (eq-eqb _ 1 c.before.before.match.keys1, c.before.if1.false, c.if2.true)
+returns-then-is_owing : tie.Need-returns-then-is_owing
+returns-then-is_owing c = rw (eq-eqb _ 1 c.in-1.is, c.if-is_open.false, c.if-is_owing.true)
 
-returns-3 : tie.Need-returns-3
-returns-3 c = rw (eq-eqb _ 1 c.before.before.match.keys1, c.before.if1.false, c.if2.false)
+returns-else-is_owing : tie.Need-returns-else-is_owing
+returns-else-is_owing c = rw (eq-eqb _ 1 c.in-1.is, c.if-is_open.false, c.if-is_owing.false)
 
-returns-4 : tie.Need-returns-4
-returns-4 c =
-    let m = c.before.before in
-    let code = m.before.args.code in
-    rw (ne_eqb code 1 m.match.rest.0.1, le-leb 2 code (omega arith), le-leb code 3 (omega arith), c.if4.true)
+returns-then-is_open-2 : tie.Need-returns-then-is_open-2
+returns-then-is_open-2 c =
+    let code = c.args.code in
+    rw (ne_eqb code 1 c.in-2-to-3.in_default-own.rest.0.1, le-leb 2 code (omega arith), le-leb code 3 (omega arith), c.if-is_open-2.true)
 
-returns-5 : tie.Need-returns-5
-returns-5 c =
-    let m = c.before.before in
-    let code = m.before.args.code in
-    rw (ne_eqb code 1 m.match.rest.0.1, le-leb 2 code (omega arith), le-leb code 3 (omega arith), c.if4.false)
+returns-else-is_open-2 : tie.Need-returns-else-is_open-2
+returns-else-is_open-2 c =
+    let code = c.args.code in
+    rw (ne_eqb code 1 c.in-2-to-3.in_default-own.rest.0.1, le-leb 2 code (omega arith), le-leb code 3 (omega arith), c.if-is_open-2.false)
 
-returns-6 : tie.Need-returns-6
-returns-6 c = rw c.match.keys2
+returns-in-0 : tie.Need-returns-in-0
+returns-in-0 c = rw c.in-0.in-0-own.keys2
 
-returns-7 : tie.Need-returns-7
-returns-7 c =
-    let m = c.before in
-    let code = m.before.args.code in
-    rw (ne_eqb code 1 m.match.rest.0.1, le-leb 2 code (omega arith), lt-leb code 3 (omega arith))
+returns-in-0-2 : tie.Need-returns-in-0-2
+returns-in-0-2 c =
+    let code = c.args.code in
+    rw (ne_eqb code 1 c.in-0.in_default-own.rest.0.1, le-leb 2 code (omega arith), lt-leb code 3 (omega arith))
 
-pub decide-spec : {M : Type 1} → statement M
-decide-spec =
-    tie.close (tie.spec returns returns-2 returns-3 returns-4 returns-5 returns-6 returns-7)
+pub decide_spec : {M : Type 1} → statement M
+decide_spec =
+    tie.close (tie.spec returns-then-is_open returns-then-is_owing returns-else-is_owing returns-then-is_open-2 returns-else-is_open-2 returns-in-0 returns-in-0-2)

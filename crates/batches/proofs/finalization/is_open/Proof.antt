@@ -8,23 +8,23 @@ use borrow.Author.Rules.{rules}
 use Rattle.batches.proofs.finalization.is_open.Statement.{statement}
 use Rattle.batches.proofs.finalization.is_open.Tie as tie
 
-is-settling-requires : tie.Need-is-settling-requires
-is-settling-requires c κs = search rules
+is_settling-requires : tie.Need-is_settling-requires
+is_settling-requires c κs = search rules
 
-is-deciding-requires : tie.Need-is-deciding-requires
-is-deciding-requires c κs = search rules
+is_deciding-requires : tie.Need-is_deciding-requires
+is_deciding-requires c κs = search rules
 
-returns : tie.Need-returns
-returns c =
-    let a = c.before.before.before.before.args in
-    let part : is_settling (plain_part a.part) ≡ true = sym c.before.before.is-settling.ensures ∙ c.before.if1.true in
-    rw (part, sym c.is-deciding.ensures)
+returns-then-is_settling : tie.Need-returns-then-is_settling
+returns-then-is_settling c =
+    let a = c.args in
+    let part : is_settling (plain_part a.part) ≡ true = sym c.is_settling.ensures ∙ c.if-is_settling.true in
+    rw (part, sym c.is_deciding.ensures)
 
-returns-2 : tie.Need-returns-2
-returns-2 c =
-    let a = c.before.before.before.args in
-    let part : is_settling (plain_part a.part) ≡ false = sym c.before.is-settling.ensures ∙ c.if1.false in
-    rw (part, c.if1.false)
+returns-else-is_settling : tie.Need-returns-else-is_settling
+returns-else-is_settling c =
+    let a = c.args in
+    let part : is_settling (plain_part a.part) ≡ false = sym c.is_settling.ensures ∙ c.if-is_settling.false in
+    rw (part, c.if-is_settling.false)
 
-pub is-open-spec : {M : Type 1} → statement M
-is-open-spec = tie.close (tie.spec is-settling-requires is-deciding-requires returns returns-2)
+pub is_open_spec : {M : Type 1} → statement M
+is_open_spec = tie.close (tie.spec is_settling-requires is_deciding-requires returns-then-is_settling returns-else-is_settling)

@@ -8,25 +8,25 @@ use borrow.Author.Rules.{rules}
 use Rattle.batches.proofs.finalization.is_owing.Statement.{statement}
 use Rattle.batches.proofs.finalization.is_owing.Tie as tie
 
-is-core-requires : tie.Need-is-core-requires
-is-core-requires c κs = search rules
+is_core-requires : tie.Need-is_core-requires
+is_core-requires c κs = search rules
 
 owes-requires : tie.Need-owes-requires
 owes-requires c κs = search rules
 
-returns : tie.Need-returns
+returns-then-is_core : tie.Need-returns-then-is_core
 unfolding plain_entry
-returns c =
-    let a = c.before.before.before.args in
-    let part : is_core (plain_part a.e.part) ≡ true = sym c.before.before.is-core.ensures ∙ c.before.if1.true in
+returns-then-is_core c =
+    let a = c.args in
+    let part : is_core (plain_part a.e.part) ≡ true = sym c.is_core.ensures ∙ c.if-is_core.true in
     rw part c.owes.ensures
 
-returns-2 : tie.Need-returns-2
+returns-else-is_core : tie.Need-returns-else-is_core
 unfolding plain_entry
-returns-2 c =
-    let a = c.before.before.args in
-    let part : is_core (plain_part a.e.part) ≡ false = sym c.before.is-core.ensures ∙ c.if1.false in
-    rw part c.if1.false
+returns-else-is_core c =
+    let a = c.args in
+    let part : is_core (plain_part a.e.part) ≡ false = sym c.is_core.ensures ∙ c.if-is_core.false in
+    rw part c.if-is_core.false
 
-pub is-owing-spec : {M : Type 1} → statement M
-is-owing-spec = tie.close (tie.spec is-core-requires owes-requires returns returns-2)
+pub is_owing_spec : {M : Type 1} → statement M
+is_owing_spec = tie.close (tie.spec is_core-requires owes-requires returns-then-is_core returns-else-is_core)

@@ -7,14 +7,14 @@ use borrow.Author.Rules.{rules}
 use Rattle.batches.proofs.finalization.refusal.Statement.{statement}
 use Rattle.batches.proofs.finalization.refusal.Tie as tie
 
-finalization-formed-requires : tie.Need-finalization-formed-requires
-finalization-formed-requires c κs = search rules
+finalization_formed-requires : tie.Need-finalization_formed-requires
+finalization_formed-requires c κs = search rules
 
-returns : tie.Need-returns
-returns c = let f : finalization_formed c.before.before.before.args.words.now ≡ true = sym c.before.finalization-formed.ensures ∙ c.if1.true in rw f
+returns-then-finalization_formed : tie.Need-returns-then-finalization_formed
+returns-then-finalization_formed c = let f : finalization_formed c.args.words.now ≡ true = sym c.finalization_formed.ensures ∙ c.if-finalization_formed.true in rw f
 
-returns-2 : tie.Need-returns-2
-returns-2 c = let f : finalization_formed c.before.before.before.args.words.now ≡ false = sym c.before.finalization-formed.ensures ∙ c.if1.false in rw f
+returns-else-finalization_formed : tie.Need-returns-else-finalization_formed
+returns-else-finalization_formed c = let f : finalization_formed c.args.words.now ≡ false = sym c.finalization_formed.ensures ∙ c.if-finalization_formed.false in rw f
 
-pub refusal-spec : {M : Type 1} → statement M
-refusal-spec = tie.close (tie.spec finalization-formed-requires returns returns-2)
+pub refusal_spec : {M : Type 1} → statement M
+refusal_spec = tie.close (tie.spec finalization_formed-requires returns-then-finalization_formed returns-else-finalization_formed)

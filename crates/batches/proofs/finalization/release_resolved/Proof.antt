@@ -20,11 +20,11 @@ use borrow.Author.Rules.{rules}
 use Rattle.batches.proofs.finalization.release_resolved.Statement.{statement}
 use Rattle.batches.proofs.finalization.release_resolved.Tie as tie
 
-abbrev invariant-loop : tie.invariant-loop
-invariant-loop words ledger₀ refused n released₀ i₀ ledger released i = Going refused ledger₀ ledger released (Resolving ledger₀ words ledger released i)
+abbrev invariant-loop-i : tie.invariant-loop-i
+invariant-loop-i words ledger₀ refused n released₀ i₀ ledger released i = Going refused ledger₀ ledger released (Resolving ledger₀ words ledger released i)
 
-abbrev decreases-loop : tie.decreases-loop
-decreases-loop words ledger₀ refused n released₀ i₀ ledger released i = n - i
+abbrev decreases-loop-i : tie.decreases-loop-i
+decreases-loop-i words ledger₀ refused n released₀ i₀ ledger released i = n - i
 
 -- where the turn stands among the words, which were not refused
 record Stands (l₀ : Ledger) (ws : List ℕ) (refused n : ℕ) (l : Ledger) (released i : ℕ) : Type 0 where
@@ -35,221 +35,201 @@ record Stands (l₀ : Ledger) (ws : List ℕ) (refused n : ℕ) (l : Ledger) (re
   line : i < line_count ws
   so : Resolving l₀ ws l released i
 
-stands : (c : tie.In-loop invariant-loop decreases-loop) → Stands c.before.before.before.before.before.args.t1 c.before.before.before.before.before.args.words.now
-    c.before.before.before.refusal.result c.before.before.items_of.result c.before.loop.ledger c.before.loop.released c.before.loop.i
+stands : (c : tie.In-loop-i invariant-loop-i decreases-loop-i) → Stands c.args.ledger c.args.words.now
+    c.refusal-refused.result c.items_of-n.result c.loop-i.ledger c.loop-i.released c.loop-i.i
 stands c =
-    let n = c.before.before in
-    let ws = n.before.before.before.args.words.now in
-    let t = turning n.before.refusal.result (line_count ws) n.items_of.result c.before.loop.i n.items_of.ensures c.loop-test.true in
-    let f = formed ws n.before.refusal.result n.before.refusal.ensures t.0 in
+    let ws = c.args.words.now in
+    let t = turning c.refusal-refused.result (line_count ws) c.items_of-n.result c.loop-i.i c.items_of-n.ensures c.loop-i-test.true in
+    let f = formed ws c.refusal-refused.result c.refusal-refused.ensures t.0 in
     record {
       none = t.0;
       formed = f;
       form = finalized ws f;
       lines = t.1;
-      line = omega (arith, t.1, c.loop-test.true);
-      so = c.before.loop.invariant.goes t.0;
+      line = omega (arith, t.1, c.loop-i-test.true);
+      so = c.loop-i.invariant.goes t.0;
     }
 
 -- the line in hand is the i-th
-line : (c : tie.After-line-at invariant-loop decreases-loop) → IsLine c.before.before.before.before.before.before.args.words.now c.before.before.loop.i c.line-at.result
-line c = c.line-at.ensures
+line : (c : tie.After-line_at-line invariant-loop-i decreases-loop-i) → IsLine c.args.words.now c.loop-i.i c.line_at-line.result
+line c = c.line_at-line.ensures
 
 -- its transaction was found
-there : (c : tie.After-k invariant-loop decreases-loop) → AtSlot c.before.before.before.before.before.before.before.loop.ledger (number_of c.before.before.before.before.before.line-at.result.tx) c.k.given.0.0
+there : (c : tie.In-At invariant-loop-i decreases-loop-i) → AtSlot c.loop-i.ledger (number_of c.line_at-line.result.tx) c.in-At.k
 there c =
-    let w = c.before.before.before.before.before.before in
-    found_at w.before.loop.ledger (stands w).so.held _ c.k.given.0.0 (sym c.before.before.find.ensures ∙ c.k.given.1)
+    found_at c.loop-i.ledger (stands c.before.before.before.before.before).so.held _ c.in-At.k (sym c.find.ensures ∙ c.in-At.is)
 
 -- the entry that was found is left as it is
-leaves : (c : tie.After-rule invariant-loop decreases-loop) → (c.rule.result ≡ Skip) ⊎ (c.rule.result ≡ Refused) →
-    let w = c.before.before.before.before.before.before.before.before.before.before.before in
-    let o = w.before.loop in
-    let s = w.before.before in
-    let a = s.before.before.before.args in
-    Going s.before.refusal.result a.t1 o.ledger o.released (Resolving a.t1 a.words.now o.ledger o.released (o.i + 1))
+leaves : (c : tie.After-rule invariant-loop-i decreases-loop-i) → (c.rule.result ≡ Skip) ⊎ (c.rule.result ≡ Refused) →
+    let o = c.loop-i in
+    let a = c.args in
+    Going c.refusal-refused.result a.ledger o.ledger o.released (Resolving a.ledger a.words.now o.ledger o.released (o.i + 1))
 leaves c q =
-    let w = c.before.before.before.before.before.before.before.before.before.before.before in
-    let o = w.before.loop in
-    let s = w.before.before in
-    let a = s.before.before.before.args in
-    let k = c.before.before.before.before.before in
-    let x = k.before.before.before.before.before in
-    goes_on s.before.refusal.result a.t1 _ _ _ (stands w).none
-    (line_leave a.t1 a.words.now o.ledger o.released o.i (stands w).so _ (line x).next k.k.given.0.0 _
-    (sym k.before.before.find.ensures ∙ k.k.given.1) (line x).coded c.rule.result c.rule.ensures q)
+    let o = c.loop-i in
+    let a = c.args in
+    goes_on c.refusal-refused.result a.ledger _ _ _ (stands c.before.before.before.before.before.before.before.before.before).none
+    (line_leave a.ledger a.words.now o.ledger o.released o.i (stands c.before.before.before.before.before.before.before.before.before).so _ (line c.before.before.before.before.before.before.before.before).next c.in-At.k _
+    (sym c.find.ensures ∙ c.in-At.is) (line c.before.before.before.before.before.before.before.before).coded c.rule.result c.rule.ensures q)
 
-refusal-requires : tie.Need-refusal-requires invariant-loop decreases-loop
-refusal-requires c κs = search rules
+refusal-refused-requires : tie.Need-refusal-refused-requires invariant-loop-i decreases-loop-i
+refusal-refused-requires c κs = search rules
 
-items-of-requires : tie.Need-items-of-requires invariant-loop decreases-loop
-items-of-requires c κs = search rules
+items_of-n-requires : tie.Need-items_of-n-requires invariant-loop-i decreases-loop-i
+items_of-n-requires c κs = search rules
 
-loop-holds : tie.Need-loop-init invariant-loop decreases-loop
-loop-holds c =
-    let s = c.before.before.before in
-    starts c.before.refusal.result s.args.t1 _ (λ _. resolving s.args.t1 s.args.words.now s.requires)
+loop-i-init : tie.Need-loop-i-init invariant-loop-i decreases-loop-i
+loop-i-init c =
+    starts c.refusal-refused.result c.args.ledger _ (λ _. resolving c.args.ledger c.args.words.now c.requires)
 
-line-at-requires : tie.Need-line-at-requires invariant-loop decreases-loop
-line-at-requires c κs = ((stands c).formed, (stands c).line)
+line_at-line-requires : tie.Need-line_at-line-requires invariant-loop-i decreases-loop-i
+line_at-line-requires c κs = ((stands c).formed, (stands c).line)
 
-add-i : tie.Need-overflow-add-i invariant-loop decreases-loop
-add-i c = omega (arith, stands c.before.before)
+overflow_add-i : tie.Need-overflow_add-i invariant-loop-i decreases-loop-i
+overflow_add-i c = omega (arith, stands c.before.before)
 
-find-requires : tie.Need-find-requires invariant-loop decreases-loop
+find-requires : tie.Need-find-requires invariant-loop-i decreases-loop-i
 find-requires c κs = (stands c.before.before.before).so.held.roster
 
-enum-known-k : tie.Need-enum-known-k invariant-loop decreases-loop
-enum-known-k c = search rules
+enum_known-k : tie.Need-enum_known-k invariant-loop-i decreases-loop-i
+enum_known-k c = search rules
 
-enum_told : tie.Need-enum-told invariant-loop decreases-loop
-enum_told c = search rules
+enum_told-1 : tie.Need-enum_told-1 invariant-loop-i decreases-loop-i
+enum_told-1 c = search rules
 
-loop-less : tie.Need-loop-smaller invariant-loop decreases-loop
-loop-less c = omega (arith, stands c.before.before.before.before.before.before)
+loop-i-smaller-in_default : tie.Need-loop-i-smaller-in_default invariant-loop-i decreases-loop-i
+loop-i-smaller-in_default c = omega (arith, stands c.before.before.before.before.before)
 
-loop-again : tie.Need-loop-preserved invariant-loop decreases-loop
-loop-again c =
-    let o = c.before.before.before.before.before.before.before.loop in
-    let w = c.before.before.before.before.before.before in
-    let s = w.before.before in
-    let a = s.before.before.before.args in
-    goes_on s.before.refusal.result a.t1 _ _ _ (stands w).none
-    (line_unknown a.t1 a.words.now o.ledger o.released o.i (stands w).so _ (line c.before.before.before.before.before).next
-    (sym c.before.before.find.ensures ∙ c.enum_told.given.1))
+loop-i-preserved-in_default : tie.Need-loop-i-preserved-in_default invariant-loop-i decreases-loop-i
+loop-i-preserved-in_default c =
+    let o = c.loop-i in
+    let a = c.args in
+    goes_on c.refusal-refused.result a.ledger _ _ _ (stands c.before.before.before.before.before).none
+    (line_unknown a.ledger a.words.now o.ledger o.released o.i (stands c.before.before.before.before.before).so _ (line c.before.before.before.before).next
+    (sym c.find.ensures ∙ c.in_default.is))
 
-mul-slot : tie.Need-overflow-mul-slot invariant-loop decreases-loop
-mul-slot c = omega (arith, (there c.before).place, (stands c.before.before.before.before.before.before.before).so.held.roster)
+offset_bounds-roster-k : tie.Need-offset_bounds-roster-k invariant-loop-i decreases-loop-i
+offset_bounds-roster-k c = omega (arith, (there c).place, (stands c.before.before.before.before.before).so.held.roster)
 
-element-copy-out-slot : tie.Need-element-copy-out-slot invariant-loop decreases-loop
-element-copy-out-slot c = omega (arith, (there c.before).place, (stands c.before.before.before.before.before.before.before).so.held.roster)
+bounds-roster-k : tie.Need-bounds-roster-k invariant-loop-i decreases-loop-i
+bounds-roster-k c = omega (arith, (there c).place, (stands c.before.before.before.before.before).so.held.roster)
 
-mul-e : tie.Need-overflow-mul-e invariant-loop decreases-loop
-mul-e c = omega (arith, (there c.before.before).slot)
+offset_bounds-ledger-slot : tie.Need-offset_bounds-ledger-slot invariant-loop-i decreases-loop-i
+offset_bounds-ledger-slot c = omega (arith, (there c.before).slot)
 
-element-copy-out-e : tie.Need-element-copy-out-e invariant-loop decreases-loop
-element-copy-out-e c = (there c.before.before).slot
+bounds-ledger-slot : tie.Need-bounds-ledger-slot invariant-loop-i decreases-loop-i
+bounds-ledger-slot c = (there c.before).slot
 
-rule-requires : tie.Need-rule-requires invariant-loop decreases-loop
-rule-requires c κs = ((stands c.before.before.before.before.before.before.before.before.before.before).formed, (there c.before.before.before.before).fits _)
+rule-requires : tie.Need-rule-requires invariant-loop-i decreases-loop-i
+rule-requires c κs = ((stands c.before.before.before.before.before.before.before.before).formed, (there c.before.before.before).fits _)
 
-enum-told-2 : tie.Need-enum-told-2 invariant-loop decreases-loop
-enum-told-2 c = search rules
+enum_told-in-Skip : tie.Need-enum_told-in-Skip invariant-loop-i decreases-loop-i
+enum_told-in-Skip c = search rules
 
-loop-less-2 : tie.Need-loop-smaller-2 invariant-loop decreases-loop
-loop-less-2 c = omega (arith, stands c.before.before.before.before.before.before.before.before.before.before.before.before.before)
+loop-i-smaller-in-Skip : tie.Need-loop-i-smaller-in-Skip invariant-loop-i decreases-loop-i
+loop-i-smaller-in-Skip c = omega (arith, stands c.before.before.before.before.before.before.before.before.before.before)
 
-loop-again-2 : tie.Need-loop-preserved-2 invariant-loop decreases-loop
-loop-again-2 c = leaves c.before.before (inl c.enum-told2.given.1)
+loop-i-preserved-in-Skip : tie.Need-loop-i-preserved-in-Skip invariant-loop-i decreases-loop-i
+loop-i-preserved-in-Skip c = leaves c.before (inl c.in-Skip.is)
 
-enum-told-3 : tie.Need-enum-told-3 invariant-loop decreases-loop
-enum-told-3 c = search rules
+enum_told-in-Resolve : tie.Need-enum_told-in-Resolve invariant-loop-i decreases-loop-i
+enum_told-in-Resolve c = search rules
 
-resolve-requires : tie.Need-resolve-requires invariant-loop decreases-loop
-resolve-requires c κs = (there c.before.before.before.before.before.before.before).fits _
+resolve-requires : tie.Need-resolve-requires invariant-loop-i decreases-loop-i
+resolve-requires c κs = (there c.before.before.before.before.before).fits _
 
-mul-t28 : tie.Need-overflow-mul-t28 invariant-loop decreases-loop
-mul-t28 c = omega (arith, (there c.before.before.before.before.before.before.before.before).slot)
+offset_bounds-ledger-slot-in-Resolve : tie.Need-offset_bounds-ledger-slot-in-Resolve invariant-loop-i decreases-loop-i
+offset_bounds-ledger-slot-in-Resolve c = omega (arith, (there c.before.before.before.before.before.before).slot)
 
-element-set-from-ledger : tie.Need-element-set-from-ledger invariant-loop decreases-loop
-element-set-from-ledger c = (there c.before.before.before.before.before.before.before.before).slot
+bounds-ledger-slot-in-Resolve : tie.Need-bounds-ledger-slot-in-Resolve invariant-loop-i decreases-loop-i
+bounds-ledger-slot-in-Resolve c = (there c.before.before.before.before.before.before).slot
 
-loop-less-3 : tie.Need-loop-smaller-3 invariant-loop decreases-loop
-loop-less-3 c = omega (arith, stands c.before.before.before.before.before.before.before.before.before.before.before.before.before.before)
+loop-i-smaller-in-Resolve : tie.Need-loop-i-smaller-in-Resolve invariant-loop-i decreases-loop-i
+loop-i-smaller-in-Resolve c = omega (arith, stands c.before.before.before.before.before.before.before.before.before.before.before)
 
-loop-again-3 : tie.Need-loop-preserved-3 invariant-loop decreases-loop
-loop-again-3 c =
-    let o = c.before.before.before.before.before.before.before.before.before.before.before.before.before.before.before.loop in
-    let w = c.before.before.before.before.before.before.before.before.before.before.before.before.before.before in
-    let s = w.before.before in
-    let a = s.before.before.before.args in
-    let k = c.before.before.before.before.before.before.before.before in
-    goes_on s.before.refusal.result a.t1 _ _ _ (stands w).none
-    (line-resolve a.t1 a.words.now o.ledger o.released o.i (stands w).so _ (line k.before.before.before.before.before).next k.k.given.0.0 _
-    (sym k.before.before.find.ensures ∙ k.k.given.1) (line k.before.before.before.before.before).coded c.before.before.before.rule.result c.before.before.before.rule.ensures c.before.enum-told3.given.1 c.resolve.result c.resolve.ensures)
+loop-i-preserved-in-Resolve : tie.Need-loop-i-preserved-in-Resolve invariant-loop-i decreases-loop-i
+loop-i-preserved-in-Resolve c =
+    let o = c.loop-i in
+    let a = c.args in
+    goes_on c.refusal-refused.result a.ledger _ _ _ (stands c.before.before.before.before.before.before.before.before.before.before.before).none
+    (line-resolve a.ledger a.words.now o.ledger o.released o.i (stands c.before.before.before.before.before.before.before.before.before.before.before).so _ (line c.before.before.before.before.before.before.before.before.before.before).next c.in-At.k _
+    (sym c.find.ensures ∙ c.in-At.is) (line c.before.before.before.before.before.before.before.before.before.before).coded c.rule.result c.rule.ensures c.in-Resolve.is c.resolve.result c.resolve.ensures)
 
-enum-told-4 : tie.Need-enum-told-4 invariant-loop decreases-loop
-enum-told-4 c = search rules
+enum_told-in-Release : tie.Need-enum_told-in-Release invariant-loop-i decreases-loop-i
+enum_told-in-Release c = search rules
 
-remove-at-requires : tie.Need-remove-at-requires invariant-loop decreases-loop
-remove-at-requires c κs = ((stands c.before.before.before.before.before.before.before.before.before.before.before.before.before.before).so.held.roster, (there c.before.before.before.before.before.before.before.before).place)
+remove_at-ledger-requires : tie.Need-remove_at-ledger-requires invariant-loop-i decreases-loop-i
+remove_at-ledger-requires c κs = ((stands c.before.before.before.before.before.before.before.before.before.before.before).so.held.roster, (there c.before.before.before.before.before.before).place)
 
-without-requires : tie.Need-without-requires invariant-loop decreases-loop
-without-requires c κs = (stands c.before.before.before.before.before.before.before.before.before.before.before.before.before.before.before).so.held.issuers.sound
+without-ledger-requires : tie.Need-without-ledger-requires invariant-loop-i decreases-loop-i
+without-ledger-requires c κs = (stands c.before.before.before.before.before.before.before.before.before.before.before.before).so.held.issuers.sound
 
-add-released : tie.Need-overflow-add-released invariant-loop decreases-loop
-add-released c =
-    let w = c.before.before.before.before.before.before.before.before.before.before.before.before.before.before.before.before in
-    omega (arith, released_few _ _ _ _ _ (stands w).formed (stands w).so, stands w)
+overflow_add-released : tie.Need-overflow_add-released invariant-loop-i decreases-loop-i
+overflow_add-released c =
+    omega (arith, released_few _ _ _ _ _ (stands c.before.before.before.before.before.before.before.before.before.before.before.before.before).formed (stands c.before.before.before.before.before.before.before.before.before.before.before.before.before).so, stands c.before.before.before.before.before.before.before.before.before.before.before.before.before)
 
-loop-less-4 : tie.Need-loop-smaller-4 invariant-loop decreases-loop
-loop-less-4 c = omega (arith, stands c.before.before.before.before.before.before.before.before.before.before.before.before.before.before.before.before)
+loop-i-smaller-in-Release : tie.Need-loop-i-smaller-in-Release invariant-loop-i decreases-loop-i
+loop-i-smaller-in-Release c = omega (arith, stands c.before.before.before.before.before.before.before.before.before.before.before.before.before)
 
-loop-again-4 : tie.Need-loop-preserved-4 invariant-loop decreases-loop
-loop-again-4 c =
-    let o = c.before.before.before.before.before.before.before.before.before.before.before.before.before.before.before.before.before.loop in
-    let w = c.before.before.before.before.before.before.before.before.before.before.before.before.before.before.before.before in
-    let s = w.before.before in
-    let a = s.before.before.before.args in
-    let k = c.before.before.before.before.before.before.before.before.before.before in
-    goes_on s.before.refusal.result a.t1 _ _ _ (stands w).none
-    (line-release a.t1 a.words.now o.ledger o.released o.i (stands w).so _ (line k.before.before.before.before.before).next k.k.given.0.0 _
-    (sym k.before.before.find.ensures ∙ k.k.given.1) (line k.before.before.before.before.before).coded c.before.before.before.before.before.rule.result c.before.before.before.before.before.rule.ensures c.before.before.before.enum-told4.given.1 c.before.remove-at.result c.without.result c.before.remove-at.ensures c.without.ensures)
+loop-i-preserved-in-Release : tie.Need-loop-i-preserved-in-Release invariant-loop-i decreases-loop-i
+loop-i-preserved-in-Release c =
+    let o = c.loop-i in
+    let a = c.args in
+    goes_on c.refusal-refused.result a.ledger _ _ _ (stands c.before.before.before.before.before.before.before.before.before.before.before.before.before).none
+    (line-release a.ledger a.words.now o.ledger o.released o.i (stands c.before.before.before.before.before.before.before.before.before.before.before.before.before).so _ (line c.before.before.before.before.before.before.before.before.before.before.before.before).next c.in-At.k _
+    (sym c.find.ensures ∙ c.in-At.is) (line c.before.before.before.before.before.before.before.before.before.before.before.before).coded c.rule.result c.rule.ensures c.in-Release.is c.remove_at-ledger.result c.without-ledger.result c.remove_at-ledger.ensures c.without-ledger.ensures)
 
-enum-told-5 : tie.Need-enum-told-5 invariant-loop decreases-loop
-enum-told-5 c = search rules
+enum_told-in-Refused : tie.Need-enum_told-in-Refused invariant-loop-i decreases-loop-i
+enum_told-in-Refused c = search rules
 
-loop-less-5 : tie.Need-loop-smaller-5 invariant-loop decreases-loop
-loop-less-5 c = omega (arith, stands c.before.before.before.before.before.before.before.before.before.before.before.before.before)
+loop-i-smaller : tie.Need-loop-i-smaller invariant-loop-i decreases-loop-i
+loop-i-smaller c = omega (arith, stands c.before.before.before.before.before.before.before.before.before.before)
 
-loop-again-5 : tie.Need-loop-preserved-5 invariant-loop decreases-loop
-loop-again-5 c = leaves c.before.before (inr c.enum-told5.given.1)
+loop-i-preserved : tie.Need-loop-i-preserved invariant-loop-i decreases-loop-i
+loop-i-preserved c = leaves c.before (inr c.in-Refused.is)
 
-returns : tie.Need-returns invariant-loop decreases-loop
+returns : tie.Need-returns invariant-loop-i decreases-loop-i
 returns c =
-    let o = c.before.loop in
-    let n = c.before.before in
-    let s = n.before.before.before in
-    resolves s.args.t1 s.args.words.now o.ledger n.before.refusal.result n.items_of.result o.released o.i s.requires n.before.refusal.ensures
-    n.items_of.ensures o.invariant c.loop-test.false
+    let o = c.loop-i in
+    resolves c.args.ledger c.args.words.now o.ledger c.refusal-refused.result c.items_of-n.result o.released o.i c.requires c.refusal-refused.ensures
+    c.items_of-n.ensures o.invariant c.loop-i-test.false
 
-pub release-resolved-spec : {M : Type 1} → statement M
-release-resolved-spec =
+pub release_resolved_spec : {M : Type 1} → statement M
+release_resolved_spec =
     tie.close
     (tie.spec
-    invariant-loop
-    decreases-loop
-    refusal-requires
-    items-of-requires
-    loop-holds
-    line-at-requires
-    add-i
+    invariant-loop-i
+    decreases-loop-i
+    refusal-refused-requires
+    items_of-n-requires
+    loop-i-init
+    line_at-line-requires
+    overflow_add-i
     find-requires
-    enum-known-k
-    enum_told
-    loop-less
-    loop-again
-    mul-slot
-    element-copy-out-slot
-    mul-e
-    element-copy-out-e
+    enum_known-k
+    enum_told-1
+    loop-i-smaller-in_default
+    loop-i-preserved-in_default
+    offset_bounds-roster-k
+    bounds-roster-k
+    offset_bounds-ledger-slot
+    bounds-ledger-slot
     rule-requires
-    enum-told-2
-    loop-less-2
-    loop-again-2
-    enum-told-3
+    enum_told-in-Skip
+    loop-i-smaller-in-Skip
+    loop-i-preserved-in-Skip
+    enum_told-in-Resolve
     resolve-requires
-    mul-t28
-    element-set-from-ledger
-    loop-less-3
-    loop-again-3
-    enum-told-4
-    remove-at-requires
-    without-requires
-    add-released
-    loop-less-4
-    loop-again-4
-    enum-told-5
-    loop-less-5
-    loop-again-5
+    offset_bounds-ledger-slot-in-Resolve
+    bounds-ledger-slot-in-Resolve
+    loop-i-smaller-in-Resolve
+    loop-i-preserved-in-Resolve
+    enum_told-in-Release
+    remove_at-ledger-requires
+    without-ledger-requires
+    overflow_add-released
+    loop-i-smaller-in-Release
+    loop-i-preserved-in-Release
+    enum_told-in-Refused
+    loop-i-smaller
+    loop-i-preserved
     returns)

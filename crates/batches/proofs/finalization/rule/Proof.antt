@@ -7,11 +7,11 @@ use borrow.Author.Rules.{rules}
 use Rattle.batches.proofs.finalization.rule.Statement.{statement}
 use Rattle.batches.proofs.finalization.rule.Tie as tie
 
-is-open-requires : tie.Need-is-open-requires
-is-open-requires c κs = search rules
+is_open-open-requires : tie.Need-is_open-open-requires
+is_open-open-requires c κs = search rules
 
-is-owing-requires : tie.Need-is-owing-requires
-is-owing-requires c κs = search rules
+is_owing-owing-requires : tie.Need-is_owing-owing-requires
+is_owing-owing-requires c κs = search rules
 
 decide-requires : tie.Need-decide-requires
 decide-requires c κs = search rules
@@ -19,7 +19,7 @@ decide-requires c κs = search rules
 returns : tie.Need-returns
 unfolding plain_entry
 returns c =
-    c.decide.ensures ∙ ap₂ (ruled_by c.before.before.before.before.args.line.code) c.before.before.is_open.ensures c.before.is-owing.ensures
+    c.decide.ensures ∙ ap₂ (ruled_by c.args.line.code) c.is_open-open.ensures c.is_owing-owing.ensures
 
-pub rule-spec : {M : Type 1} → statement M
-rule-spec = tie.close (tie.spec is-open-requires is-owing-requires decide-requires returns)
+pub rule_spec : {M : Type 1} → statement M
+rule_spec = tie.close (tie.spec is_open-open-requires is_owing-owing-requires decide-requires returns)

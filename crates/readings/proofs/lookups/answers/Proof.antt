@@ -19,92 +19,83 @@ use Rattle.readings.proofs.lookups.answers.Tie as tie
 refusal-requires : tie.Need-refusal-requires
 refusal-requires c κs = search rules
 
-returns : tie.Need-returns
-returns c = refuses 5 _ _ _ [] _ (omega arith) c.refusal.ensures (stops _ _ _ (lt-ltb _ _ c.before.if1.true))
+returns-then-inclusion-gt1 : tie.Need-returns-then-inclusion-gt1
+returns-then-inclusion-gt1 c = refuses 5 _ _ _ [] _ (omega arith) c.refusal.ensures (stops _ _ _ (lt-ltb _ _ c.if-inclusion-gt1.true))
 
-question-refusal-requires : tie.Need-question-refusal-requires
-question-refusal-requires c κs = search rules
+question_refusal-no-requires : tie.Need-question_refusal-no-requires
+question_refusal-no-requires c κs = search rules
 
-refusal-requires-2 : tie.Need-refusal-requires-2
-refusal-requires-2 c κs = search rules
+refusal-requires-then-no-gt0 : tie.Need-refusal-requires-then-no-gt0
+refusal-requires-then-no-gt0 c κs = search rules
 
-returns-2 : tie.Need-returns-2
-returns-2 c = refuses _ _ _ _ [] _ c.before.if2.true c.refusal2.ensures (goes_on _ _ _ (le-ltb _ _ c.before.before.before.if1.false) ∙ sym c.before.before.question-refusal.ensures)
+returns-then-no-gt0 : tie.Need-returns-then-no-gt0
+returns-then-no-gt0 c = refuses _ _ _ _ [] _ c.if-no-gt0.true c.refusal-then-no-gt0.ensures (goes_on _ _ _ (le-ltb _ _ c.if-inclusion-gt1.false) ∙ sym c.question_refusal-no.ensures)
 
-is-absent-requires : tie.Need-is-absent-requires
+is_absent-requires : tie.Need-is_absent-requires
 unfolding contents
-is-absent-requires c κs =
-    let q = c.before in
-    let s = q.before.before in
-    let none : q.question-refusal.result ≡ 0 = omega arith in
-    let t = timely (question 0 s.args.shard.0 0 s.args.at.0 s.args.end.0) s.args.«read_at».0 (sym q.question-refusal.ensures ∙ none) in
-    let v = s.args.ledger.core_span in
-    (t, omega (arith, leb-true v (2 ^ 40) (and_right (leb 1 v) (leb v (2 ^ 40)) s.requires.good.frame.core_span)))
+is_absent-requires c κs =
+    let none : c.question_refusal-no.result ≡ 0 = omega arith in
+    let t = timely (question 0 c.args.shard.0 0 c.args.at.0 c.args.end.0) c.args.«read_at».0 (sym c.question_refusal-no.ensures ∙ none) in
+    let v = c.args.ledger.core_span in
+    (t, omega (arith, leb-true v (2 ^ 40) (and_right (leb 1 v) (leb v (2 ^ 40)) c.requires.good.frame.core_span)))
 
-yes-no-requires : tie.Need-yes-no-requires
-yes-no-requires c κs = search rules
+yes_no-requires : tie.Need-yes_no-requires
+yes_no-requires c κs = search rules
 
-returns-3 : tie.Need-returns-3
+returns-then-not-is_absent : tie.Need-returns-then-not-is_absent
 unfolding contents
-returns-3 c =
-    let q = c.before.before.before.before in
-    let none : q.question-refusal.result ≡ 0 = omega arith in
-    passes _ _ _ [] [] _ (goes_on _ _ _ (le-ltb _ _ q.before.if1.false) ∙ sym q.question-refusal.ensures ∙ none)
-    (says _ _ _ _ c.yes-no.ensures (fails _ _ (sym c.before.before.is-absent.ensures ∙ not-true _ c.before.if3.true)))
+returns-then-not-is_absent c =
+    let none : c.question_refusal-no.result ≡ 0 = omega arith in
+    passes _ _ _ [] [] _ (goes_on _ _ _ (le-ltb _ _ c.if-inclusion-gt1.false) ∙ sym c.question_refusal-no.ensures ∙ none)
+    (says _ _ _ _ c.yes_no.ensures (fails _ _ (sym c.is_absent.ensures ∙ not-true _ c.if-not-is_absent.true-raw)))
 
 find-requires : tie.Need-find-requires
 find-requires c κs = search rules
 
-enum_told : tie.Need-enum-told
-enum_told c = search rules
+enum_told-1 : tie.Need-enum_told-1
+enum_told-1 c = search rules
 
-enum-told-2 : tie.Need-enum-told-2
-enum-told-2 c = search rules
+enum_told-in_default : tie.Need-enum_told-in_default
+enum_told-in_default c = search rules
 
-yes-no-requires-2 : tie.Need-yes-no-requires-2
-yes-no-requires-2 c κs = search rules
+yes_no-requires-in_default : tie.Need-yes_no-requires-in_default
+yes_no-requires-in_default c κs = search rules
 
-returns-4 : tie.Need-returns-4
+returns-in_default : tie.Need-returns-in_default
 unfolding contents
-returns-4 c =
-    let f = c.before.before.before in
-    let q = f.before.before.before.before.before in
-    let s = q.before.before in
-    let none : q.question-refusal.result ≡ 0 = omega arith in
-    let a = found_at s.args.ledger s.requires (number_of s.args.tx) _ (sym f.find.ensures ∙ c.before.enum-told2.given.1) in
-    passes _ _ _ [] [] _ (goes_on _ _ _ (le-ltb _ _ q.before.if1.false) ∙ sym q.question-refusal.ensures ∙ none)
-    (says _ _ _ _ c.yes-no2.ensures (follows _ _ _ (sym f.before.before.before.is-absent.ensures ∙ not-false _ f.before.before.if3.false) (sym a.known)))
+returns-in_default c =
+    let none : c.question_refusal-no.result ≡ 0 = omega arith in
+    let a = found_at c.args.ledger c.requires (number_of c.args.tx) _ (sym c.find.ensures ∙ c.in_default.is) in
+    passes _ _ _ [] [] _ (goes_on _ _ _ (le-ltb _ _ c.if-inclusion-gt1.false) ∙ sym c.question_refusal-no.ensures ∙ none)
+    (says _ _ _ _ c.yes_no-in_default.ensures (follows _ _ _ (sym c.is_absent.ensures ∙ not-false _ c.if-not-is_absent.false-raw) (sym a.known)))
 
-yes-no-requires-3 : tie.Need-yes-no-requires-3
-yes-no-requires-3 c κs = search rules
+yes_no-requires-2 : tie.Need-yes_no-requires-2
+yes_no-requires-2 c κs = search rules
 
-returns-5 : tie.Need-returns-5
+returns : tie.Need-returns
 unfolding contents
-returns-5 c =
-    let f = c.before.before.before in
-    let q = f.before.before.before.before.before in
-    let s = q.before.before in
-    let none : q.question-refusal.result ≡ 0 = omega arith in
-    let a = not_found s.args.ledger s.requires (number_of s.args.tx) (sym f.find.ensures ∙ c.before.enum_told.given.1) in
-    passes _ _ _ [] [] _ (goes_on _ _ _ (le-ltb _ _ q.before.if1.false) ∙ sym q.question-refusal.ensures ∙ none)
-    (says _ _ _ _ c.yes-no3.ensures (follows _ _ _ (sym f.before.before.before.is-absent.ensures ∙ not-false _ f.before.before.if3.false) (sym a.known)))
+returns c =
+    let none : c.question_refusal-no.result ≡ 0 = omega arith in
+    let a = not_found c.args.ledger c.requires (number_of c.args.tx) (sym c.find.ensures ∙ c.in-Nothing.is) in
+    passes _ _ _ [] [] _ (goes_on _ _ _ (le-ltb _ _ c.if-inclusion-gt1.false) ∙ sym c.question_refusal-no.ensures ∙ none)
+    (says _ _ _ _ c.yes_no-2.ensures (follows _ _ _ (sym c.is_absent.ensures ∙ not-false _ c.if-not-is_absent.false-raw) (sym a.known)))
 
-pub answers-spec : {M : Type 1} → statement M
-answers-spec =
+pub answers_spec : {M : Type 1} → statement M
+answers_spec =
     tie.close
     (tie.spec
     refusal-requires
-    returns
-    question-refusal-requires
-    refusal-requires-2
-    returns-2
-    is-absent-requires
-    yes-no-requires
-    returns-3
+    returns-then-inclusion-gt1
+    question_refusal-no-requires
+    refusal-requires-then-no-gt0
+    returns-then-no-gt0
+    is_absent-requires
+    yes_no-requires
+    returns-then-not-is_absent
     find-requires
-    enum_told
-    enum-told-2
-    yes-no-requires-2
-    returns-4
-    yes-no-requires-3
-    returns-5)
+    enum_told-1
+    enum_told-in_default
+    yes_no-requires-in_default
+    returns-in_default
+    yes_no-requires-2
+    returns)

@@ -11,55 +11,54 @@ use borrow.Author.Rules.{rules}
 use Rattle.readings.proofs.lookups.departed.Statement.{statement}
 use Rattle.readings.proofs.lookups.departed.Tie as tie
 
-slot-of-requires : tie.Need-slot-of-requires
-slot-of-requires c κs = search rules
+slot_of-requires : tie.Need-slot_of-requires
+slot_of-requires c κs = search rules
 
-enum-known-slot : tie.Need-enum-known-slot
-enum-known-slot c = search rules
+enum_known-slot : tie.Need-enum_known-slot
+enum_known-slot c = search rules
 
-enum_told : tie.Need-enum-told
-enum_told c = search rules
+enum_told-1 : tie.Need-enum_told-1
+enum_told-1 c = search rules
 
-yes-no-requires : tie.Need-yes-no-requires
-yes-no-requires c κs = search rules
+yes_no-requires : tie.Need-yes_no-requires
+yes_no-requires c κs = search rules
+
+returns-in_default : tie.Need-returns-in_default
+returns-in_default c =
+    unanswered is_named c.args.ledger (number_of c.args.tx) _ (not_found c.args.ledger c.requires (number_of c.args.tx) (rw c.in_default.is at c.slot_of.ensures)) c.yes_no.ensures
+
+there : (c : tie.In-At) → Owed c.args.ledger (number_of c.args.tx) c.in-At.slot
+there c =
+    owed_in c.args.ledger c.requires (number_of c.args.tx) c.in-At.slot (rw c.in-At.is at c.slot_of.ensures)
+
+there_unread : (c : tie.In-At-unread) → Owed c.args.ledger (number_of c.args.tx) c.in-At.slot
+there_unread c =
+    owed_in c.args.ledger c.requires (number_of c.args.tx) c.in-At.slot (rw c.in-At.is at c.slot_of.ensures)
+
+offset_bounds-ledger-slot : tie.Need-offset_bounds-ledger-slot
+offset_bounds-ledger-slot c = omega (arith, (there_unread c).slot)
+
+bounds-ledger-slot : tie.Need-bounds-ledger-slot
+bounds-ledger-slot c = (there_unread c).slot
+
+yes_no-requires-2 : tie.Need-yes_no-requires-2
+yes_no-requires-2 c κs = search rules
 
 returns : tie.Need-returns
-returns c =
-    let s = c.before.before.before.before.before in
-    let f = c.before.before.before in
-    unanswered is_named s.args.t1 (number_of s.args.tx) _ (not_found s.args.t1 s.requires (number_of s.args.tx) (rw c.before.enum_told.given.1 at f.slot_of.ensures)) c.yes-no.ensures
-
-there : (c : tie.After-slot) → Owed c.before.before.before.before.args.t1 (number_of c.before.before.before.before.args.tx) c.slot.given.0.0
-there c =
-    let s = c.before.before.before.before in
-    owed_in s.args.t1 s.requires (number_of s.args.tx) c.slot.given.0.0 (rw c.slot.given.1 at c.before.before.slot_of.ensures)
-
-mul-yes-no : tie.Need-overflow-mul-yes-no
-mul-yes-no c = omega (arith, (there c.before).slot)
-
-element-copy-out-yes-no : tie.Need-element-copy-out-yes-no
-element-copy-out-yes-no c = (there c.before).slot
-
-yes-no-requires-2 : tie.Need-yes-no-requires-2
-yes-no-requires-2 c κs = search rules
-
-returns-2 : tie.Need-returns-2
 unfolding plain_entry
-returns-2 c =
-    let k = c.before.before in
-    let s = k.before.before.before.before in
-    answered is_named s.args.t1 (number_of s.args.tx) k.slot.given.0.0 _ _ _ (there k) c.yes-no2.ensures refl
+returns c =
+    answered is_named c.args.ledger (number_of c.args.tx) c.in-At.slot _ _ _ (there c.before) c.yes_no-2.ensures refl
 
-pub departed-spec : {M : Type 1} → statement M
-departed-spec =
+pub departed_spec : {M : Type 1} → statement M
+departed_spec =
     tie.close
     (tie.spec
-    slot-of-requires
-    enum-known-slot
-    enum_told
-    yes-no-requires
-    returns
-    mul-yes-no
-    element-copy-out-yes-no
-    yes-no-requires-2
-    returns-2)
+    slot_of-requires
+    enum_known-slot
+    enum_told-1
+    yes_no-requires
+    returns-in_default
+    offset_bounds-ledger-slot
+    bounds-ledger-slot
+    yes_no-requires-2
+    returns)

@@ -7,17 +7,17 @@ use borrow.Author.Rules.{rules}
 use Rattle.readings.proofs.lookups.is_abandonable.Statement.{statement}
 use Rattle.readings.proofs.lookups.is_abandonable.Tie as tie
 
-is-core-requires : tie.Need-is-core-requires
-is-core-requires c κs = search rules
+is_core-requires : tie.Need-is_core-requires
+is_core-requires c κs = search rules
+
+returns-then-not-is_core : tie.Need-returns-then-not-is_core
+returns-then-not-is_core c = first_fails _ _ _ (sym c.is_core.ensures ∙ not-true _ c.if-not-is_core.true-raw)
+
+returns-then-certified-ge2 : tie.Need-returns-then-certified-ge2
+returns-then-certified-ge2 c = second_fails _ _ _ (sym c.is_core.ensures ∙ not-false _ c.if-not-is_core.false-raw) (le-ltb _ _ c.if-certified-ge2.true)
 
 returns : tie.Need-returns
-returns c = first_fails _ _ _ (sym c.before.is-core.ensures ∙ not-true _ c.if1.true)
+returns c = third_tells _ _ _ _ (sym c.is_core.ensures ∙ not-false _ c.if-not-is_core.false-raw) (lt-ltb _ _ c.if-certified-ge2.false) (nought c.args.departed_by.0)
 
-returns-2 : tie.Need-returns-2
-returns-2 c = second_fails _ _ _ (sym c.before.before.is-core.ensures ∙ not-false _ c.before.if1.false) (le-ltb _ _ c.if2.true)
-
-returns-3 : tie.Need-returns-3
-returns-3 c = third_tells _ _ _ _ (sym c.before.before.before.is-core.ensures ∙ not-false _ c.before.before.if1.false) (lt-ltb _ _ c.before.if2.false) (nought c.before.before.before.before.args.departed-by.0)
-
-pub is-abandonable-spec : {M : Type 1} → statement M
-is-abandonable-spec = tie.close (tie.spec is-core-requires returns returns-2 returns-3)
+pub is_abandonable_spec : {M : Type 1} → statement M
+is_abandonable_spec = tie.close (tie.spec is_core-requires returns-then-not-is_core returns-then-certified-ge2 returns)

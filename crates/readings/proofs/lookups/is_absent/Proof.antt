@@ -8,23 +8,23 @@ use borrow.Author.Rules.{rules}
 use Rattle.readings.proofs.lookups.is_absent.Statement.{statement}
 use Rattle.readings.proofs.lookups.is_absent.Tie as tie
 
-returns : tie.Need-returns
-returns c =
-    let a = c.before.args in
+returns-then-inclusion-gt0 : tie.Need-returns-then-inclusion-gt0
+returns-then-inclusion-gt0 c =
+    let a = c.args in
     fails _ _ (ne_eqb a.inclusion 0 (λ e. omega arith))
 
-returns-2 : tie.Need-returns-2
-returns-2 c =
-    let a = c.before.before.before.before.args in
-    follows _ _ _ (eq-eqb a.inclusion 0 (omega arith)) (fails _ _ (lt-leb _ _ c.if2.true))
+returns-then-read_at-at : tie.Need-returns-then-read_at-at
+returns-then-read_at-at c =
+    let a = c.args in
+    follows _ _ _ (eq-eqb a.inclusion 0 (omega arith)) (fails _ _ (lt-leb _ _ c.if-read_at-at.true))
 
-add-result : tie.Need-overflow-add-result
-add-result c = search rules
+overflow_add-result : tie.Need-overflow_add-result
+overflow_add-result c = search rules
 
-returns-3 : tie.Need-returns-3
-returns-3 c =
-    let a = c.before.before.before.before.before.before.args in
+returns : tie.Need-returns
+returns c =
+    let a = c.args in
     follows _ _ _ (eq-eqb a.inclusion 0 (omega arith)) (follows _ _ _ (le-leb a.at.0 a.«read_at».0 (omega arith)) refl)
 
-pub is-absent-spec : {M : Type 1} → statement M
-is-absent-spec = tie.close (tie.spec returns returns-2 add-result returns-3)
+pub is_absent_spec : {M : Type 1} → statement M
+is_absent_spec = tie.close (tie.spec returns-then-inclusion-gt0 returns-then-read_at-at overflow_add-result returns)

@@ -13,13 +13,12 @@ use Rattle.readings.proofs.lookups.issued_by.Tie as tie
 names-requires : tie.Need-names-requires
 names-requires c κs = (c.requires.issuers.sound, rw c.requires.issuers.pairs (index_rises (contents c.args.ledger)))
 
-yes-no-requires : tie.Need-yes-no-requires
-yes-no-requires c κs = search rules
+yes_no-requires : tie.Need-yes_no-requires
+yes_no-requires c κs = search rules
 
 returns : tie.Need-returns
 returns c =
-    let s = c.before.before in
-    says _ _ _ _ c.yes-no.ensures (c.before.names.ensures ∙ ap (λ l. names l s.args.r.0 (number_of s.args.tx)) s.requires.issuers.pairs)
+    says _ _ _ _ c.yes_no.ensures (c.names.ensures ∙ ap (λ l. names l c.args.r.0 (number_of c.args.tx)) c.requires.issuers.pairs)
 
-pub issued-by-spec : {M : Type 1} → statement M
-issued-by-spec = tie.close (tie.spec names-requires yes-no-requires returns)
+pub issued_by_spec : {M : Type 1} → statement M
+issued_by_spec = tie.close (tie.spec names-requires yes_no-requires returns)

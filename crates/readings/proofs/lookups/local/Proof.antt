@@ -14,5 +14,5 @@ returns : tie.Need-returns
 unfolding contents
 returns c = tells _ _ _ _ c.answer.ensures refl
 
-pub local-spec : {M : Type 1} → statement M
-local-spec = tie.close (tie.spec answer-requires returns)
+pub local_spec : {M : Type 1} → statement M
+local_spec = tie.close (tie.spec answer-requires returns)

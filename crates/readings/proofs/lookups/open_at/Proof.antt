@@ -8,33 +8,33 @@ use borrow.Author.Rules.{rules}
 use Rattle.readings.proofs.lookups.open_at.Statement.{statement}
 use Rattle.readings.proofs.lookups.open_at.Tie as tie
 
-question-refusal-requires : tie.Need-question-refusal-requires
-question-refusal-requires c κs = search rules
+question_refusal-no-requires : tie.Need-question_refusal-no-requires
+question_refusal-no-requires c κs = search rules
 
 refusal-requires : tie.Need-refusal-requires
 refusal-requires c κs = search rules
 
-returns : tie.Need-returns
-returns c = refuses _ _ _ _ [] _ c.before.if1.true c.refusal.ensures (sym c.before.before.question-refusal.ensures)
+returns-then-no-gt0 : tie.Need-returns-then-no-gt0
+returns-then-no-gt0 c = refuses _ _ _ _ [] _ c.if-no-gt0.true c.refusal.ensures (sym c.question_refusal-no.ensures)
 
 passed-requires : tie.Need-passed-requires
 passed-requires c κs = search rules
 
-yes-no-requires : tie.Need-yes-no-requires
-yes-no-requires c κs = search rules
+yes_no-requires : tie.Need-yes_no-requires
+yes_no-requires c κs = search rules
 
-returns-2 : tie.Need-returns-2
-returns-2 c =
-    let none : c.before.before.before.question-refusal.result ≡ 0 = omega arith in
-    passes _ _ _ [] [] _ (sym c.before.before.before.question-refusal.ensures ∙ none) (says _ _ _ _ c.yes-no.ensures c.before.passed.ensures)
+returns : tie.Need-returns
+returns c =
+    let none : c.question_refusal-no.result ≡ 0 = omega arith in
+    passes _ _ _ [] [] _ (sym c.question_refusal-no.ensures ∙ none) (says _ _ _ _ c.yes_no.ensures c.passed.ensures)
 
-pub open-at-spec : {M : Type 1} → statement M
-open-at-spec =
+pub open_at_spec : {M : Type 1} → statement M
+open_at_spec =
     tie.close
     (tie.spec
-    question-refusal-requires
+    question_refusal-no-requires
     refusal-requires
-    returns
+    returns-then-no-gt0
     passed-requires
-    yes-no-requires
-    returns-2)
+    yes_no-requires
+    returns)

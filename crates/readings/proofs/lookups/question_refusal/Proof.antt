@@ -6,29 +6,29 @@ use borrow.Author.Rules.{rules}
 use Rattle.readings.proofs.lookups.question_refusal.Statement.{statement}
 use Rattle.readings.proofs.lookups.question_refusal.Tie as tie
 
-are-times-requires : tie.Need-are-times-requires
-are-times-requires c κs = search rules
+are_times-requires : tie.Need-are_times-requires
+are_times-requires c κs = search rules
+
+returns-then-not-are_times : tie.Need-returns-then-not-are_times
+returns-then-not-are_times c =
+    let e = sym c.are_times.ensures ∙ not-true _ c.if-not-are_times.true-raw in
+    rw e
+
+is_shard-requires : tie.Need-is_shard-requires
+is_shard-requires c κs = search rules
+
+returns-then-not-is_shard : tie.Need-returns-then-not-is_shard
+returns-then-not-is_shard c =
+    let e = sym c.are_times.ensures ∙ not-false _ c.if-not-are_times.false-raw in
+    let f = sym c.is_shard.ensures ∙ not-true _ c.if-not-is_shard.true-raw in
+    rw (e, f)
 
 returns : tie.Need-returns
 returns c =
-    let e = sym c.before.are-times.ensures ∙ not-true _ c.if1.true in
-    rw e
-
-is-shard-requires : tie.Need-is-shard-requires
-is-shard-requires c κs = search rules
-
-returns-2 : tie.Need-returns-2
-returns-2 c =
-    let e = sym c.before.before.before.are-times.ensures ∙ not-false _ c.before.before.if1.false in
-    let f = sym c.before.is-shard.ensures ∙ not-true _ c.if2.true in
+    let e = sym c.are_times.ensures ∙ not-false _ c.if-not-are_times.false-raw in
+    let f = sym c.is_shard.ensures ∙ not-false _ c.if-not-is_shard.false-raw in
     rw (e, f)
 
-returns-3 : tie.Need-returns-3
-returns-3 c =
-    let e = sym c.before.before.before.are-times.ensures ∙ not-false _ c.before.before.if1.false in
-    let f = sym c.before.is-shard.ensures ∙ not-false _ c.if2.false in
-    rw (e, f)
-
-pub question-refusal-spec : {M : Type 1} → statement M
-question-refusal-spec =
-    tie.close (tie.spec are-times-requires returns is-shard-requires returns-2 returns-3)
+pub question_refusal_spec : {M : Type 1} → statement M
+question_refusal_spec =
+    tie.close (tie.spec are_times-requires returns-then-not-are_times is_shard-requires returns-then-not-is_shard returns)

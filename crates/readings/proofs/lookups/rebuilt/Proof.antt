@@ -14,5 +14,5 @@ returns : tie.Need-returns
 unfolding contents
 returns c = tells _ _ _ _ c.answer.ensures refl
 
-pub rebuilt-spec : {M : Type 1} → statement M
-rebuilt-spec = tie.close (tie.spec answer-requires returns)
+pub rebuilt_spec : {M : Type 1} → statement M
+rebuilt_spec = tie.close (tie.spec answer-requires returns)

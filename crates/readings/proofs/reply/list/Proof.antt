@@ -12,81 +12,79 @@ use borrow.Author.Rules.{rules}
 use Rattle.readings.proofs.reply.list.Statement.{statement}
 use Rattle.readings.proofs.reply.list.Tie as tie
 
-abbrev invariant-loop : tie.invariant-loop
-invariant-loop words n items lent₀ i₀ lent i = (i ≤ n) × (length lent ≡ length lent₀) × (take i lent ++ drop i (take n words) ≡ take n words) × (drop n lent ≡ drop n lent₀)
+abbrev invariant-loop-i : tie.invariant-loop-i
+invariant-loop-i words n items lent₀ i₀ lent i = (i ≤ n) × (length lent ≡ length lent₀) × (take i lent ++ drop i (take n words) ≡ take n words) × (drop n lent ≡ drop n lent₀)
 
-abbrev decreases-loop : tie.decreases-loop
-decreases-loop words n items lent₀ i₀ lent i = n - i
+abbrev decreases-loop-i : tie.decreases-loop-i
+decreases-loop-i words n items lent₀ i₀ lent i = n - i
 
-refusal-requires : tie.Need-refusal-requires invariant-loop decreases-loop
+refusal-requires : tie.Need-refusal-requires invariant-loop-i decreases-loop-i
 refusal-requires c κs = search rules
 
-returns : tie.Need-returns invariant-loop decreases-loop
-returns c =
-    let s = c.before.before.before.before in
-    listed-none s.args.words.now s.args.lent.now s.args.n s.args.items s.requires _ c.before.if1.true c.refusal.ensures
+returns-then-lent-n : tie.Need-returns-then-lent-n invariant-loop-i decreases-loop-i
+returns-then-lent-n c =
+    listed-none c.args.words.now c.args.lent.now c.args.n c.args.items c.requires _ c.if-lent-n.true c.refusal.ensures
 
-loop-holds : tie.Need-loop-init invariant-loop decreases-loop
-loop-holds c = search rules
+loop-i-init : tie.Need-loop-i-init invariant-loop-i decreases-loop-i
+loop-i-init c = search rules
 
-mul-lent : tie.Need-overflow-mul-lent invariant-loop decreases-loop
-mul-lent c = search rules
+offset_bounds-words-i : tie.Need-offset_bounds-words-i invariant-loop-i decreases-loop-i
+offset_bounds-words-i c = search rules
 
-shared-slice-read-lent : tie.Need-shared-slice-read-lent invariant-loop decreases-loop
-shared-slice-read-lent c = search rules
+bounds-words-i : tie.Need-bounds-words-i invariant-loop-i decreases-loop-i
+bounds-words-i c = search rules
 
-mul-lent-2 : tie.Need-overflow-mul-lent-2 invariant-loop decreases-loop
-mul-lent-2 c = search rules
+offset_bounds-lent-i : tie.Need-offset_bounds-lent-i invariant-loop-i decreases-loop-i
+offset_bounds-lent-i c = search rules
 
-slice-write-lent : tie.Need-slice-write-lent invariant-loop decreases-loop
-slice-write-lent c = search rules
+bounds-lent-i : tie.Need-bounds-lent-i invariant-loop-i decreases-loop-i
+bounds-lent-i c = search rules
 
-add-i : tie.Need-overflow-add-i invariant-loop decreases-loop
-add-i c = search rules
+overflow_add-i : tie.Need-overflow_add-i invariant-loop-i decreases-loop-i
+overflow_add-i c = search rules
 
-loop-less : tie.Need-loop-smaller invariant-loop decreases-loop
-loop-less c = search rules
+loop-i-smaller : tie.Need-loop-i-smaller invariant-loop-i decreases-loop-i
+loop-i-smaller c = search rules
 
-loop-again : tie.Need-loop-preserved invariant-loop decreases-loop
-loop-again c =
-    let l = c.before.before.loop in
-    let s = c.before.before.before.before.before.before.args in (
+loop-i-preserved : tie.Need-loop-i-preserved invariant-loop-i decreases-loop-i
+loop-i-preserved c =
+    let l = c.loop-i in
+    let s = c.args in (
       search rules,
       search rules,
       push_one l.lent s.words.now _ l.i l.i s.n (omega arith) (omega arith) (omega arith) ∙ l.invariant.2,
       drop-set-lt s.n l.lent l.i _ (omega arith) ∙ l.invariant.3,
     )
 
-answer-requires : tie.Need-answer-requires invariant-loop decreases-loop
+answer-requires : tie.Need-answer-requires invariant-loop-i decreases-loop-i
 answer-requires c κs = search rules
 
-same_length : tie.Need-same-length invariant-loop decreases-loop
-same_length c = search rules
+shape_of-lent : tie.Need-shape_of-lent invariant-loop-i decreases-loop-i
+shape_of-lent c = search rules
 
-returns-2 : tie.Need-returns-2 invariant-loop decreases-loop
-returns-2 c =
-    let l = c.before.before.loop in
-    let s = c.before.before.before.before.before.before in
-    let q : l.i ≡ s.args.n = omega arith in
-    let e = rest_end s.args.words.now s.args.n s.args.n (omega arith) (omega arith) in
-    listed-all s.args.words.now s.args.lent.now s.args.n s.args.items (omega arith) l.lent _ (omega arith) (simp (q, e, append-nil) at l.invariant.2) l.invariant.3 c.answer.ensures
+returns : tie.Need-returns invariant-loop-i decreases-loop-i
+returns c =
+    let l = c.loop-i in
+    let q : l.i ≡ c.args.n = omega arith in
+    let e = rest_end c.args.words.now c.args.n c.args.n (omega arith) (omega arith) in
+    listed-all c.args.words.now c.args.lent.now c.args.n c.args.items (omega arith) l.lent _ (omega arith) (simp (q, e, append-nil) at l.invariant.2) l.invariant.3 c.answer.ensures
 
-pub list-spec : {M : Type 1} → statement M
-list-spec =
+pub list_spec : {M : Type 1} → statement M
+list_spec =
     tie.close
     (tie.spec
-    invariant-loop
-    decreases-loop
+    invariant-loop-i
+    decreases-loop-i
     refusal-requires
-    returns
-    loop-holds
-    mul-lent
-    shared-slice-read-lent
-    mul-lent-2
-    slice-write-lent
-    add-i
-    loop-less
-    loop-again
+    returns-then-lent-n
+    loop-i-init
+    offset_bounds-words-i
+    bounds-words-i
+    offset_bounds-lent-i
+    bounds-lent-i
+    overflow_add-i
+    loop-i-smaller
+    loop-i-preserved
     answer-requires
-    same_length
-    returns-2)
+    shape_of-lent
+    returns)

@@ -7,41 +7,40 @@ use borrow.Author.Rules.{rules}
 use Rattle.sweeps.proofs.closes.apply_closing.Statement.{statement}
 use Rattle.sweeps.proofs.closes.apply_closing.Tie as tie
 
-mul-if1 : tie.Need-overflow-mul-if1
-mul-if1 c = search rules
+overflow_mul-c : tie.Need-overflow_mul-c
+overflow_mul-c c = search rules
 
-returns : tie.Need-returns
-returns c l h j =
-    let a = c.before.before.before.args in
+returns-then-lent-c : tie.Need-returns-then-lent-c
+returns-then-lent-c c l h j =
+    let a = c.args in
     closes_short (with_parts l l.rebuilt a.roster l.entries a.issuers l.departures) h a.lent.now a.c j (omega arith)
 
-list-closed-requires : tie.Need-list-closed-requires
-list-closed-requires c κs = search rules
+list_closed-requires : tie.Need-list_closed-requires
+list_closed-requires c κs = search rules
 
 retain-requires : tie.Need-retain-requires
 retain-requires c κs = search rules
 
-without-dropped-requires : tie.Need-without-dropped-requires
-without-dropped-requires c κs = search rules
+without_dropped-requires : tie.Need-without_dropped-requires
+without_dropped-requires c κs = search rules
 
-same_length : tie.Need-same-length
-same_length c = search rules
+shape_of-lent : tie.Need-shape_of-lent
+shape_of-lent c = search rules
 
-returns-2 : tie.Need-returns-2
-returns-2 c l h j =
-    let e = c.before.before.before.before.before.before.before.before in
-    let a = e.before.before.before.args in
+returns : tie.Need-returns
+returns c l h j =
+    let a = c.args in
     closes-done (with_parts l l.rebuilt a.roster l.entries a.issuers l.departures) h a.lent.now a.c j (omega arith)
-    c.before.retain.result c.before.retain.ensures c.without-dropped.result c.without-dropped.ensures _ c.before.before.before.before.list-closed.ensures
+    c.retain.result c.retain.ensures c.without_dropped.result c.without_dropped.ensures _ c.list_closed.ensures
 
-pub apply-closing-spec : {M : Type 1} → statement M
-apply-closing-spec =
+pub apply_closing_spec : {M : Type 1} → statement M
+apply_closing_spec =
     tie.close
     (tie.spec
-    mul-if1
-    returns
-    list-closed-requires
+    overflow_mul-c
+    returns-then-lent-c
+    list_closed-requires
     retain-requires
-    without-dropped-requires
-    same_length
-    returns-2)
+    without_dropped-requires
+    shape_of-lent
+    returns)

@@ -12,139 +12,119 @@ use borrow.Author.Rules.{rules}
 use Rattle.sweeps.proofs.closes.closes.Statement.{statement}
 use Rattle.sweeps.proofs.closes.closes.Tie as tie
 
-abbrev invariant-loop : tie.invariant-loop
-invariant-loop lent ledger local roster n c₀ i₀ c i = Judging ledger c.stay c.codes c.count i
+abbrev invariant-loop-i : tie.invariant-loop-i
+invariant-loop-i lent ledger local roster n c₀ i₀ c i = Judging ledger c.stay c.codes c.count i
 
-abbrev decreases-loop : tie.decreases-loop
-decreases-loop lent ledger local roster n c₀ i₀ c i = n - i
+abbrev decreases-loop-i : tie.decreases-loop-i
+decreases-loop-i lent ledger local roster n c₀ i₀ c i = n - i
 
-loop-holds : tie.Need-loop-init invariant-loop decreases-loop
-loop-holds c =
+loop-i-init : tie.Need-loop-i-init invariant-loop-i decreases-loop-i
+loop-i-init c =
     record { high = omega arith; few = omega arith; stay_length = search rules; codes_length = search rules; flags = refl; decisions = refl; total = omega arith }
 
-mul-slot : tie.Need-overflow-mul-slot invariant-loop decreases-loop
-mul-slot c = search rules
+offset_bounds-roster-i : tie.Need-offset_bounds-roster-i invariant-loop-i decreases-loop-i
+offset_bounds-roster-i c = search rules
 
-element-copy-out-slot : tie.Need-element-copy-out-slot invariant-loop decreases-loop
-element-copy-out-slot c = search rules
+bounds-roster-i : tie.Need-bounds-roster-i invariant-loop-i decreases-loop-i
+bounds-roster-i c = search rules
 
-mul-e : tie.Need-overflow-mul-e invariant-loop decreases-loop
-mul-e c =
-    let b = c.before.before in
-    let s = b.before.before.before.before in
-    omega (arith, slot-within s.args.t1.roster b.loop.i s.requires.roster (omega arith))
+offset_bounds-ledger-slot : tie.Need-offset_bounds-ledger-slot invariant-loop-i decreases-loop-i
+offset_bounds-ledger-slot c =
+    omega (arith, slot-within c.args.ledger.roster c.loop-i.i c.requires.roster (omega arith))
 
-element-copy-out-e : tie.Need-element-copy-out-e invariant-loop decreases-loop
-element-copy-out-e c =
-    let b = c.before.before in
-    let s = b.before.before.before.before in
-    slot-within s.args.t1.roster b.loop.i s.requires.roster (omega arith)
+bounds-ledger-slot : tie.Need-bounds-ledger-slot invariant-loop-i decreases-loop-i
+bounds-ledger-slot c =
+    slot-within c.args.ledger.roster c.loop-i.i c.requires.roster (omega arith)
 
-decision-requires : tie.Need-decision-requires invariant-loop decreases-loop
+decision-requires : tie.Need-decision-requires invariant-loop-i decreases-loop-i
 decision-requires c κs = search rules
 
-mul-c : tie.Need-overflow-mul-c invariant-loop decreases-loop
-mul-c c = search rules
+offset_bounds-c-i : tie.Need-offset_bounds-c-i invariant-loop-i decreases-loop-i
+offset_bounds-c-i c = search rules
 
-element-write-c : tie.Need-element-write-c invariant-loop decreases-loop
-element-write-c c = search rules
+bounds-c-i : tie.Need-bounds-c-i invariant-loop-i decreases-loop-i
+bounds-c-i c = search rules
 
-is-closed-requires : tie.Need-is-closed-requires invariant-loop decreases-loop
-is-closed-requires c κs =
-    let b = c.before.before.before.before in
-    let s = b.before.before.before.before in
-    (entry_at s.args.t1 s.requires b.loop.i (omega arith)).fits _
+is_closed-requires : tie.Need-is_closed-requires invariant-loop-i decreases-loop-i
+is_closed-requires c κs =
+    (entry_at c.args.ledger c.requires c.loop-i.i (omega arith)).fits _
 
-element-write-c-2 : tie.Need-element-write-c-2 invariant-loop decreases-loop
-element-write-c-2 c = search rules
+bounds-c-i-then-is_closed : tie.Need-bounds-c-i-then-is_closed invariant-loop-i decreases-loop-i
+bounds-c-i-then-is_closed c = search rules
 
-add-c : tie.Need-overflow-add-c invariant-loop decreases-loop
-add-c c = search rules
+overflow_add-c : tie.Need-overflow_add-c invariant-loop-i decreases-loop-i
+overflow_add-c c = search rules
 
-add-i : tie.Need-overflow-add-i invariant-loop decreases-loop
-add-i c = search rules
+overflow_add-i : tie.Need-overflow_add-i invariant-loop-i decreases-loop-i
+overflow_add-i c = search rules
 
-loop-less : tie.Need-loop-smaller invariant-loop decreases-loop
-loop-less c = search rules
+loop-i-smaller-then-is_closed : tie.Need-loop-i-smaller-then-is_closed invariant-loop-i decreases-loop-i
+loop-i-smaller-then-is_closed c = search rules
 
-loop-again : tie.Need-loop-preserved invariant-loop decreases-loop
-loop-again c =
-    let k = c.before.before in
-    let b = k.before.before.before.before in
-    let s = b.before.before.before.before in
-    let l = b.loop in
-    judge_closed s.args.t1 s.requires l.c.stay l.c.codes l.c.count l.i l.invariant (omega arith) _ k.decision.result k.decision.ensures (sym c.before.is-closed.ensures ∙ c.if1.true)
+loop-i-preserved-then-is_closed : tie.Need-loop-i-preserved-then-is_closed invariant-loop-i decreases-loop-i
+loop-i-preserved-then-is_closed c =
+    let l = c.loop-i in
+    judge_closed c.args.ledger c.requires l.c.stay l.c.codes l.c.count l.i l.invariant (omega arith) _ c.decision.result c.decision.ensures (sym c.is_closed.ensures ∙ c.if-is_closed.true)
 
-element-write-c-3 : tie.Need-element-write-c-3 invariant-loop decreases-loop
-element-write-c-3 c = search rules
+bounds-c-i-else-is_closed : tie.Need-bounds-c-i-else-is_closed invariant-loop-i decreases-loop-i
+bounds-c-i-else-is_closed c = search rules
 
-add-i-2 : tie.Need-overflow-add-i-2 invariant-loop decreases-loop
-add-i-2 c = search rules
+overflow_add-i-else-is_closed : tie.Need-overflow_add-i-else-is_closed invariant-loop-i decreases-loop-i
+overflow_add-i-else-is_closed c = search rules
 
-loop-less-2 : tie.Need-loop-smaller-2 invariant-loop decreases-loop
-loop-less-2 c = search rules
+loop-i-smaller : tie.Need-loop-i-smaller invariant-loop-i decreases-loop-i
+loop-i-smaller c = search rules
 
-loop-again-2 : tie.Need-loop-preserved-2 invariant-loop decreases-loop
-loop-again-2 c =
-    let k = c.before.before in
-    let b = k.before.before.before.before in
-    let s = b.before.before.before.before in
-    let l = b.loop in
-    judge_open s.args.t1 s.requires l.c.stay l.c.codes l.c.count l.i l.invariant (omega arith) _ k.decision.result k.decision.ensures (sym c.before.is-closed.ensures ∙ c.if1.false)
+loop-i-preserved : tie.Need-loop-i-preserved invariant-loop-i decreases-loop-i
+loop-i-preserved c =
+    let l = c.loop-i in
+    judge_open c.args.ledger c.requires l.c.stay l.c.codes l.c.count l.i l.invariant (omega arith) _ c.decision.result c.decision.ensures (sym c.is_closed.ensures ∙ c.if-is_closed.false)
 
-judged : (k : tie.After-loop invariant-loop decreases-loop) → Judges k.before.before.before.before.before.args.t1 k.before.loop.c
+judged : (k : tie.After-loop-i invariant-loop-i decreases-loop-i) → Judges k.args.ledger k.loop-i.c
 judged k =
-    let b = k.before in
-    let s = b.before.before.before.before in
-    let l = b.loop in
-    judged_all s.args.t1 s.requires l.c.stay l.c.codes l.c.count l.i l.invariant (omega arith)
+    let l = k.loop-i in
+    judged_all k.args.ledger k.requires l.c.stay l.c.codes l.c.count l.i l.invariant (omega arith)
 
-apply-closing-requires : tie.Need-apply-closing-requires invariant-loop decreases-loop
-apply-closing-requires c κs =
-    let k = c.before.before in
-    let b = k.before in
-    let s = b.before.before.before.before in
+apply_closing-closed-requires : tie.Need-apply_closing-closed-requires invariant-loop-i decreases-loop-i
+apply_closing-closed-requires c κs =
     record {
-      roster = s.requires.roster;
-      issuers = s.requires.issuers.sound;
-      few = count-few s.args.t1 s.requires s.args.lent.now b.loop.c (judged k);
-      size = listed-length s.args.t1 s.requires s.args.lent.now b.loop.c (judged k);
+      roster = c.requires.roster;
+      issuers = c.requires.issuers.sound;
+      few = count-few c.args.ledger c.requires c.args.lent.now c.loop-i.c (judged c.before.before);
+      size = listed-length c.args.ledger c.requires c.args.lent.now c.loop-i.c (judged c.before.before);
     }
 
-same_length : tie.Need-same-length invariant-loop decreases-loop
-same_length c = search rules
+shape_of-lent : tie.Need-shape_of-lent invariant-loop-i decreases-loop-i
+shape_of-lent c = search rules
 
-returns : tie.Need-returns invariant-loop decreases-loop
+returns : tie.Need-returns invariant-loop-i decreases-loop-i
 returns c =
-    let o = c.before.before.before.before in
-    let k = o.before.before.before in
-    let s = k.before.before.before.before.before in
-    o.apply-closing.ensures s.args.t1 s.requires (judged k)
+    c.apply_closing-closed.ensures c.args.ledger c.requires (judged c.before.before.before.before.before.before.before)
 
-pub closes-spec : {M : Type 1} → statement M
-closes-spec =
+pub closes_spec : {M : Type 1} → statement M
+closes_spec =
     tie.close
     (tie.spec
-    invariant-loop
-    decreases-loop
-    loop-holds
-    mul-slot
-    element-copy-out-slot
-    mul-e
-    element-copy-out-e
+    invariant-loop-i
+    decreases-loop-i
+    loop-i-init
+    offset_bounds-roster-i
+    bounds-roster-i
+    offset_bounds-ledger-slot
+    bounds-ledger-slot
     decision-requires
-    mul-c
-    element-write-c
-    is-closed-requires
-    element-write-c-2
-    add-c
-    add-i
-    loop-less
-    loop-again
-    element-write-c-3
-    add-i-2
-    loop-less-2
-    loop-again-2
-    apply-closing-requires
-    same_length
+    offset_bounds-c-i
+    bounds-c-i
+    is_closed-requires
+    bounds-c-i-then-is_closed
+    overflow_add-c
+    overflow_add-i
+    loop-i-smaller-then-is_closed
+    loop-i-preserved-then-is_closed
+    bounds-c-i-else-is_closed
+    overflow_add-i-else-is_closed
+    loop-i-smaller
+    loop-i-preserved
+    apply_closing-closed-requires
+    shape_of-lent
     returns)

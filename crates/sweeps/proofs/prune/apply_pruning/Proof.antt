@@ -11,57 +11,53 @@ use borrow.Author.Rules.{rules}
 use Rattle.sweeps.proofs.prune.apply_pruning.Statement.{statement}
 use Rattle.sweeps.proofs.prune.apply_pruning.Tie as tie
 
-goes_on : (e : tie.Else1) → let a = e.before.before.before.args in refusal_by a.time.0 a.p.reports (length a.lent.now) ≡ 0
-goes_on e = sym e.before.refusal.ensures ∙ (let z : e.before.refusal.result ≡ 0 = omega arith in z)
+goes_on : (e : tie.Else-refused-gt0) → let a = e.args in refusal_by a.time.0 a.p.reports (length a.lent.now) ≡ 0
+goes_on e = sym e.refusal-refused.ensures ∙ (let z : e.refusal-refused.result ≡ 0 = omega arith in z)
 
-refusal-requires : tie.Need-refusal-requires
-refusal-requires c κs = search rules
+refusal-refused-requires : tie.Need-refusal-refused-requires
+refusal-refused-requires c κs = search rules
 
-returns : tie.Need-returns
-returns c l h j =
-    let a = c.before.before.before.args in
-    prune-refused (with_parts l l.rebuilt a.roster l.entries a.issuers a.departures) h a.time.0 a.lent.now a.p j c.before.refusal.result c.before.refusal.ensures c.if1.true
+returns-then-refused-gt0 : tie.Need-returns-then-refused-gt0
+returns-then-refused-gt0 c l h j =
+    let a = c.args in
+    prune-refused (with_parts l l.rebuilt a.roster l.entries a.issuers a.departures) h a.time.0 a.lent.now a.p j c.refusal-refused.result c.refusal-refused.ensures c.if-refused-gt0.true
 
-mul-write-reports : tie.Need-overflow-mul-write-reports
-mul-write-reports c = search rules
+overflow_mul-p : tie.Need-overflow_mul-p
+overflow_mul-p c = search rules
 
-write-reports-requires : tie.Need-write-reports-requires
-write-reports-requires c κs =
-    let e = c.before.before.before.before.before in
-    let s = e.before.before.before in
-    (omega (arith, s.requires.few), enough_room s.args.time.0 s.args.p.reports (length s.args.lent.now) (goes_on e))
+write_reports-requires : tie.Need-write_reports-requires
+write_reports-requires c κs =
+    (omega (arith, c.requires.few), enough_room c.args.time.0 c.args.p.reports (length c.args.lent.now) (goes_on c.before.before.before.before.before))
 
 retain-requires : tie.Need-retain-requires
 retain-requires c κs = search rules
 
-without-dropped-requires : tie.Need-without-dropped-requires
-without-dropped-requires c κs = search rules
+without_dropped-requires : tie.Need-without_dropped-requires
+without_dropped-requires c κs = search rules
 
 retain-requires-2 : tie.Need-retain-requires-2
 retain-requires-2 c κs = search rules
 
-same_length : tie.Need-same-length
-same_length c = search rules
+shape_of-lent : tie.Need-shape_of-lent
+shape_of-lent c = search rules
 
-returns-2 : tie.Need-returns-2
-returns-2 c l h j =
-    let w = c.before.before.before.before.before in
-    let e = w.before.before.before.before.before.before in
-    let a = e.before.before.before.args in
+returns : tie.Need-returns
+returns c l h j =
+    let a = c.args in
     prune-done (with_parts l l.rebuilt a.roster l.entries a.issuers a.departures) h a.time.0 a.lent.now a.p j
-    c.before.before.retain.result c.before.before.retain.ensures c.before.without-dropped.result c.before.without-dropped.ensures c.retain2.result c.retain2.ensures
-    (goes_on e) _ w.write-reports.ensures
+    c.retain.result c.retain.ensures c.without_dropped.result c.without_dropped.ensures c.retain-2.result c.retain-2.ensures
+    (goes_on c.before.before.before.before.before.before.before.before.before.before.before) _ c.write_reports.ensures
 
-pub apply-pruning-spec : {M : Type 1} → statement M
-apply-pruning-spec =
+pub apply_pruning_spec : {M : Type 1} → statement M
+apply_pruning_spec =
     tie.close
     (tie.spec
-    refusal-requires
-    returns
-    mul-write-reports
-    write-reports-requires
+    refusal-refused-requires
+    returns-then-refused-gt0
+    overflow_mul-p
+    write_reports-requires
     retain-requires
-    without-dropped-requires
+    without_dropped-requires
     retain-requires-2
-    same_length
-    returns-2)
+    shape_of-lent
+    returns)

@@ -14,194 +14,165 @@ use borrow.Author.Rules.{rules}
 use Rattle.sweeps.proofs.prune.prune.Statement.{statement}
 use Rattle.sweeps.proofs.prune.prune.Tie as tie
 
-abbrev invariant-loop : tie.invariant-loop
-invariant-loop time lent ledger local roster v p₀ i₀ p i = JudgingIn ledger time.0 p i
+abbrev invariant-loop-i : tie.invariant-loop-i
+invariant-loop-i time lent ledger local roster v p₀ i₀ p i = JudgingIn ledger time.0 p i
 
-abbrev decreases-loop : tie.decreases-loop
-decreases-loop time lent ledger local roster v p₀ i₀ p i = roster.len - i
+abbrev decreases-loop-i : tie.decreases-loop-i
+decreases-loop-i time lent ledger local roster v p₀ i₀ p i = roster.len - i
 
-of-requires : tie.Need-of-requires invariant-loop decreases-loop
-of-requires c κs =
-    let s = c.before.before.before.before in
-    (s.requires.departures, file-good s.args.t1 s.requires 0)
+of-v-requires : tie.Need-of-v-requires invariant-loop-i decreases-loop-i
+of-v-requires c κs =
+    (c.requires.departures, file-good c.args.ledger c.requires 0)
 
-begun-requires : tie.Need-begun-requires invariant-loop decreases-loop
-begun-requires c κs = search rules
+begun-p-requires : tie.Need-begun-p-requires invariant-loop-i decreases-loop-i
+begun-p-requires c κs = search rules
 
-loop-holds : tie.Need-loop-init invariant-loop decreases-loop
-loop-holds c =
-    let s = c.before.before.before.before.before.before in
-    rw c.begun.ensures (pass_none s.args.t1 s.requires s.args.time.0)
+loop-i-init : tie.Need-loop-i-init invariant-loop-i decreases-loop-i
+loop-i-init c =
+    rw c.begun-p.ensures (pass_none c.args.ledger c.requires c.args.time.0)
 
-mul-slot : tie.Need-overflow-mul-slot invariant-loop decreases-loop
-mul-slot c = search rules
+offset_bounds-roster-i : tie.Need-offset_bounds-roster-i invariant-loop-i decreases-loop-i
+offset_bounds-roster-i c = search rules
 
-element-copy-out-slot : tie.Need-element-copy-out-slot invariant-loop decreases-loop
-element-copy-out-slot c = search rules
+bounds-roster-i : tie.Need-bounds-roster-i invariant-loop-i decreases-loop-i
+bounds-roster-i c = search rules
 
-mul-e : tie.Need-overflow-mul-e invariant-loop decreases-loop
-mul-e c =
-    let b = c.before.before in
-    let s = b.before.before.before.before.before.before.before in
-    omega (arith, slot-within s.args.t1.roster b.loop.i s.requires.roster (omega arith))
+offset_bounds-ledger-slot : tie.Need-offset_bounds-ledger-slot invariant-loop-i decreases-loop-i
+offset_bounds-ledger-slot c =
+    omega (arith, slot-within c.args.ledger.roster c.loop-i.i c.requires.roster (omega arith))
 
-element-copy-out-e : tie.Need-element-copy-out-e invariant-loop decreases-loop
-element-copy-out-e c =
-    let b = c.before.before in
-    let s = b.before.before.before.before.before.before.before in
-    slot-within s.args.t1.roster b.loop.i s.requires.roster (omega arith)
+bounds-ledger-slot : tie.Need-bounds-ledger-slot invariant-loop-i decreases-loop-i
+bounds-ledger-slot c =
+    slot-within c.args.ledger.roster c.loop-i.i c.requires.roster (omega arith)
 
 -- a turn is at a place of the roster
-within : (k : tie.In-loop invariant-loop decreases-loop) → let b = k.before in let s = b.before.before.before.before.before.before.before in b.loop.i < s.args.t1.roster.len
+within : (k : tie.In-loop-i invariant-loop-i decreases-loop-i) → let b = k in let s = b in b.loop-i.i < s.args.ledger.roster.len
 within k = omega arith
 
-judge-requires : tie.Need-judge-requires invariant-loop decreases-loop
-judge-requires c κs =
-    let k = c.before.before.before.before.before.before.before in
-    let b = k.before in
-    let s = b.before.before.before.before.before.before.before in
-    let l = s.args.t1 in
-    let h = s.requires in
-    ((entry_at l h b.loop.i (within k)).fits _, (local-good l h 0, (here_timed l h 0 b.loop.i (within k) _, (validity-good l h 0, (leg-good l h 0, b.before.before.of.ensures.sized)))))
+judge-verdict-requires : tie.Need-judge-verdict-requires invariant-loop-i decreases-loop-i
+judge-verdict-requires c κs =
+    let l = c.args.ledger in
+    let h = c.requires in
+    ((entry_at l h c.loop-i.i (within c.before.before.before.before.before.before)).fits _, (local-good l h 0, (here_timed l h 0 c.loop-i.i (within c.before.before.before.before.before.before) _, (validity-good l h 0, (leg-good l h 0, c.of-v.ensures.sized)))))
 
-enum_told : tie.Need-enum-told invariant-loop decreases-loop
-enum_told c = search rules
+enum_told-1 : tie.Need-enum_told-1 invariant-loop-i decreases-loop-i
+enum_told-1 c = search rules
 
-element-write-p : tie.Need-element-write-p invariant-loop decreases-loop
-element-write-p c = search rules
+bounds-p-i : tie.Need-bounds-p-i invariant-loop-i decreases-loop-i
+bounds-p-i c = search rules
 
-with-needs-requires : tie.Need-with-needs-requires invariant-loop decreases-loop
-with-needs-requires c κs =
-    let j = c.before.before.before.before.before.before.before.before in
-    let k = j.before.before.before.before.before.before.before.before in
-    let b = k.before in
-    let s = b.before.before.before.before.before.before.before in
-    let l = s.args.t1 in
-    let h = s.requires in
-    let z = b.before.before.of.ensures.sized in
-    ((entry_at l h b.loop.i (within k)).fits _, (local-good l h 0, (z.room, z.shard_length, z.zero_length, z.cut_length, z.within)))
+with_needs-p-requires : tie.Need-with_needs-p-requires invariant-loop-i decreases-loop-i
+with_needs-p-requires c κs =
+    let l = c.args.ledger in
+    let h = c.requires in
+    let z = c.of-v.ensures.sized in
+    ((entry_at l h c.loop-i.i (within c.before.before.before.before.before.before.before.before.before.before.before.before.before)).fits _, (local-good l h 0, (z.room, z.shard_length, z.zero_length, z.cut_length, z.within)))
 
-some-down-requires : tie.Need-some-down-requires invariant-loop decreases-loop
-some-down-requires c κs =
-    let j = c.before.before.before.before.before.before.before.before.before.before in
-    let b = j.before.before.before.before.before.before.before.before.before in
-    b.before.before.of.ensures.sized.room
+some_down-requires : tie.Need-some_down-requires invariant-loop-i decreases-loop-i
+some_down-requires c κs =
+    c.of-v.ensures.sized.room
 
-enum-told-2 : tie.Need-enum-told-2 invariant-loop decreases-loop
-enum-told-2 c = search rules
+enum_told-in-Falls : tie.Need-enum_told-in-Falls invariant-loop-i decreases-loop-i
+enum_told-in-Falls c = search rules
 
-add-p : tie.Need-overflow-add-p invariant-loop decreases-loop
-add-p c = search rules
+overflow_add-p : tie.Need-overflow_add-p invariant-loop-i decreases-loop-i
+overflow_add-p c = search rules
 
-enum-known-verdict : tie.Need-enum-known-verdict invariant-loop decreases-loop
-enum-known-verdict c = search rules
+enum_known-verdict : tie.Need-enum_known-verdict invariant-loop-i decreases-loop-i
+enum_known-verdict c = search rules
 
-mul_at : tie.Need-overflow-mul-at invariant-loop decreases-loop
-mul_at c = search rules
+overflow_mul-at : tie.Need-overflow_mul-at invariant-loop-i decreases-loop-i
+overflow_mul-at c = search rules
 
-put-report-requires : tie.Need-put-report-requires invariant-loop decreases-loop
-put-report-requires c κs = search rules
+put_report-requires : tie.Need-put_report-requires invariant-loop-i decreases-loop-i
+put_report-requires c κs = search rules
 
 -- the turn that a report is written in
-abbrev turn : tie.After-put-report invariant-loop decreases-loop → tie.In-loop invariant-loop decreases-loop
-turn c = c.before.before.before.before.before.before.before.before.before.before.before.before.before
+abbrev turn : tie.After-put_report invariant-loop-i decreases-loop-i → tie.In-loop-i invariant-loop-i decreases-loop-i
+turn c = c.before.before.before.before.before.before.before.before.before.before.before
 
-add-p-2 : tie.Need-overflow-add-p-2 invariant-loop decreases-loop
-add-p-2 c =
-    let b = (turn c).before in
-    let few : b.loop.p.reports + 1 < 2 ^ 64 = omega (arith, within (turn c), b.loop.inv.few, b.before.before.before.before.before.before.before.pre.roster.room) in
+overflow_add-p-in-Reported : tie.Need-overflow_add-p-in-Reported invariant-loop-i decreases-loop-i
+overflow_add-p-in-Reported c =
+    let b = (turn c) in
+    let few : b.loop-i.p.reports + 1 < 2 ^ 64 = omega (arith, within (turn c), b.loop-i.inv.few, b.requires.roster.room) in
     record { fits = few }
 
-add-p-3 : tie.Need-overflow-add-p-3 invariant-loop decreases-loop
-add-p-3 c =
-    let b = (turn c).before in
-    let few : b.loop.p.fallen + 1 < 2 ^ 64 = omega (arith, within (turn c), b.loop.inv.less, b.before.before.before.before.before.before.before.pre.roster.room) in
+overflow_add-p-in-Reported-2 : tie.Need-overflow_add-p-in-Reported-2 invariant-loop-i decreases-loop-i
+overflow_add-p-in-Reported-2 c =
+    let b = (turn c) in
+    let few : b.loop-i.p.fallen + 1 < 2 ^ 64 = omega (arith, within (turn c), b.loop-i.inv.less, b.requires.roster.room) in
     record { fits = few }
 
-add-i : tie.Need-overflow-add-i invariant-loop decreases-loop
-add-i c = search rules
+overflow_add-i : tie.Need-overflow_add-i invariant-loop-i decreases-loop-i
+overflow_add-i c = search rules
 
-loop-less : tie.Need-loop-smaller invariant-loop decreases-loop
-loop-less c = search rules
+loop-i-smaller : tie.Need-loop-i-smaller invariant-loop-i decreases-loop-i
+loop-i-smaller c = search rules
 
-loop-again : tie.Need-loop-preserved invariant-loop decreases-loop
-loop-again c =
-    let j = c.before in
-    let k = j.before.before.before.before.before.before.before.before in
-    let b = k.before in
-    let v = b.before.before in
-    let s = b.before.before.before.before.before.before.before in
-    let at = s.args.t1 in
-    let now = s.args.time.0 in
-    let i = b.loop.i in
+loop-i-preserved : tie.Need-loop-i-preserved invariant-loop-i decreases-loop-i
+loop-i-preserved c =
+    let at = c.args.ledger in
+    let now = c.args.time.0 in
+    let i = c.loop-i.i in
     ⊎_elim
     (λ w.
     let size : length w.8.result ≡ 32 = search rules in
-    rw w.11 (pass_stands at s.requires now i (within k) _ v.of.result v.of.ensures j.judge.result j.judge.ensures b.loop.p b.loop.invariant w.1.given.1 w.8.result w.10.result size w.10.ensures w.8.ensures))
+    rw w.11 (pass_stands at c.requires now i (within c.before.before.before.before.before.before.before.before) _ c.of-v.result c.of-v.ensures c.judge-verdict.result c.judge-verdict.ensures c.loop-i.p c.loop-i.invariant w.1.given.1 w.8.result w.10.result size w.10.ensures w.8.ensures))
     (⊎_elim
-    (λ w. rw w.3 (pass_idle at s.requires now i (within k) _ v.of.result v.of.ensures j.judge.result j.judge.ensures b.loop.p b.loop.invariant w.1.given.1 w.2.left))
+    (λ w. rw w.3 (pass_idle at c.requires now i (within c.before.before.before.before.before.before.before.before) _ c.of-v.result c.of-v.ensures c.judge-verdict.result c.judge-verdict.ensures c.loop-i.p c.loop-i.invariant w.1.given.1 w.2.left))
     (⊎_elim
-    (λ w. rw w.2 (pass_falls at s.requires now i (within k) _ v.of.result v.of.ensures j.judge.result j.judge.ensures b.loop.p b.loop.invariant w.1.given.1))
-    (λ w. rw w.5 (pass_reported at s.requires now i (within k) _ v.of.result v.of.ensures j.judge.result j.judge.ensures b.loop.p b.loop.invariant w.1.given.0.0 w.4.last.0 w.1.given.1 w.4.ensures))))
-    c.match.branch
+    (λ w. rw w.2 (pass_falls at c.requires now i (within c.before.before.before.before.before.before.before.before) _ c.of-v.result c.of-v.ensures c.judge-verdict.result c.judge-verdict.ensures c.loop-i.p c.loop-i.invariant w.1.given.1))
+    (λ w. rw w.5 (pass_reported at c.requires now i (within c.before.before.before.before.before.before.before.before) _ c.of-v.result c.of-v.ensures c.judge-verdict.result c.judge-verdict.ensures c.loop-i.p c.loop-i.invariant w.1.given.0.0 w.4.last.0 w.1.given.1 w.4.ensures))))
+    c.match-verdict.branch
 
-judged : (k : tie.After-loop invariant-loop decreases-loop) → let s = k.before.before.before.before.before.before.before.before in Judges s.args.t1 s.args.time.0 k.before.loop.p
+judged : (k : tie.After-loop-i invariant-loop-i decreases-loop-i) → let s = k in Judges s.args.ledger s.args.time.0 k.loop-i.p
 judged k =
-    let b = k.before in
-    let s = b.before.before.before.before.before.before.before in
-    passed s.args.t1 s.requires s.args.time.0 b.loop.p b.loop.i b.loop.invariant (omega arith)
+    passed k.args.ledger k.requires k.args.time.0 k.loop-i.p k.loop-i.i k.loop-i.invariant (omega arith)
 
-apply-pruning-requires : tie.Need-apply-pruning-requires invariant-loop decreases-loop
-apply-pruning-requires c κs =
-    let k = c.before.before.before in
-    let b = k.before in
-    let s = b.before.before.before.before.before.before.before in
+apply_pruning-done-requires : tie.Need-apply_pruning-done-requires invariant-loop-i decreases-loop-i
+apply_pruning-done-requires c κs =
     record {
-      roster = s.requires.roster;
-      issuers = s.requires.issuers.sound;
-      departures = s.requires.departures;
-      few = reports-few s.args.t1 s.requires s.args.time.0 s.args.lent.now b.loop.p (judged k);
+      roster = c.requires.roster;
+      issuers = c.requires.issuers.sound;
+      departures = c.requires.departures;
+      few = reports-few c.args.ledger c.requires c.args.time.0 c.args.lent.now c.loop-i.p (judged c.before.before.before);
     }
 
-same_length : tie.Need-same-length invariant-loop decreases-loop
-same_length c = search rules
+shape_of-lent : tie.Need-shape_of-lent invariant-loop-i decreases-loop-i
+shape_of-lent c = search rules
 
-returns : tie.Need-returns invariant-loop decreases-loop
+returns : tie.Need-returns invariant-loop-i decreases-loop-i
 returns c =
-    let o = c.before.before.before.before.before.before in
-    let k = o.before.before.before.before in
-    let b = k.before in
-    let s = b.before.before.before.before.before.before.before in
-    o.apply-pruning.ensures s.args.t1 s.requires (judged k)
+    c.apply_pruning-done.ensures c.args.ledger c.requires (judged c.before.before.before.before.before.before.before.before.before.before)
 
-pub prune-spec : {M : Type 1} → statement M
-prune-spec =
+pub prune_spec : {M : Type 1} → statement M
+prune_spec =
     tie.close
     (tie.spec
-    invariant-loop
-    decreases-loop
-    of-requires
-    begun-requires
-    loop-holds
-    mul-slot
-    element-copy-out-slot
-    mul-e
-    element-copy-out-e
-    judge-requires
-    enum_told
-    element-write-p
-    with-needs-requires
-    some-down-requires
-    enum-told-2
-    add-p
-    enum-known-verdict
-    mul_at
-    put-report-requires
-    add-p-2
-    add-p-3
-    add-i
-    loop-less
-    loop-again
-    apply-pruning-requires
-    same_length
+    invariant-loop-i
+    decreases-loop-i
+    of-v-requires
+    begun-p-requires
+    loop-i-init
+    offset_bounds-roster-i
+    bounds-roster-i
+    offset_bounds-ledger-slot
+    bounds-ledger-slot
+    judge-verdict-requires
+    enum_told-1
+    bounds-p-i
+    with_needs-p-requires
+    some_down-requires
+    enum_told-in-Falls
+    overflow_add-p
+    enum_known-verdict
+    overflow_mul-at
+    put_report-requires
+    overflow_add-p-in-Reported
+    overflow_add-p-in-Reported-2
+    overflow_add-i
+    loop-i-smaller
+    loop-i-preserved
+    apply_pruning-done-requires
+    shape_of-lent
     returns)

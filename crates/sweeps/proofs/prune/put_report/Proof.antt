@@ -8,36 +8,36 @@ use Rattle.sweeps.proofs.prune.put_report.Tie as tie
 put-requires : tie.Need-put-requires
 put-requires c κs = search rules
 
-add_words : tie.Need-overflow-add-words
-add_words c = search rules
+overflow_add-words : tie.Need-overflow_add-words
+overflow_add-words c = search rules
 
-mul_words : tie.Need-overflow-mul-words
-mul_words c = search rules
+offset_bounds-words-at : tie.Need-offset_bounds-words-at
+offset_bounds-words-at c = search rules
 
-element-write-words : tie.Need-element-write-words
-element-write-words c = search rules
+bounds-words-at : tie.Need-bounds-words-at
+bounds-words-at c = search rules
 
-add-words-2 : tie.Need-overflow-add-words-2
-add-words-2 c = search rules
+overflow_add-words-2 : tie.Need-overflow_add-words-2
+overflow_add-words-2 c = search rules
 
-mul-words-2 : tie.Need-overflow-mul-words-2
-mul-words-2 c = search rules
+offset_bounds-words-at-2 : tie.Need-offset_bounds-words-at-2
+offset_bounds-words-at-2 c = search rules
 
-element-write-words-2 : tie.Need-element-write-words-2
-element-write-words-2 c = search rules
+bounds-words-at-2 : tie.Need-bounds-words-at-2
+bounds-words-at-2 c = search rules
 
 returns : tie.Need-returns
-returns c = let at = c.before.before.args.at in rw (c.put.ensures, add-one at, add-two at)
+returns c = let at = c.args.at in rw (c.put.ensures, add-one at, add-two at)
 
-pub put-report-spec : {M : Type 1} → statement M
-put-report-spec =
+pub put_report_spec : {M : Type 1} → statement M
+put_report_spec =
     tie.close
     (tie.spec
     put-requires
-    add_words
-    mul_words
-    element-write-words
-    add-words-2
-    mul-words-2
-    element-write-words-2
+    overflow_add-words
+    offset_bounds-words-at
+    bounds-words-at
+    overflow_add-words-2
+    offset_bounds-words-at-2
+    bounds-words-at-2
     returns)

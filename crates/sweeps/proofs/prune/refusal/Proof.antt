@@ -10,28 +10,28 @@ use borrow.Author.Rules.{rules}
 use Rattle.sweeps.proofs.prune.refusal.Statement.{statement}
 use Rattle.sweeps.proofs.prune.refusal.Tie as tie
 
-is-time-requires : tie.Need-is-time-requires
-is-time-requires c κs = search rules
+is_time-requires : tie.Need-is_time-requires
+is_time-requires c κs = search rules
 
-returns : tie.Need-returns
-returns c =
-    let e : is_time c.before.before.args.time.0 ≡ false = sym c.before.is-time.ensures ∙ not-true _ c.if1.true in
+returns-then-not-is_time : tie.Need-returns-then-not-is_time
+returns-then-not-is_time c =
+    let e : is_time c.args.time.0 ≡ false = sym c.is_time.ensures ∙ not-true _ c.if-not-is_time.true-raw in
     rw e
 
-mul-if2 : tie.Need-overflow-mul-if2
-mul-if2 c = search rules
+overflow_mul-reports : tie.Need-overflow_mul-reports
+overflow_mul-reports c = search rules
 
-returns-2 : tie.Need-returns-2
-returns-2 c =
-    let a = c.before.before.before.args in
-    let e : is_time a.time.0 ≡ true = sym c.before.before.is-time.ensures ∙ not-false _ c.before.if1.false in
+returns-then-room-reports : tie.Need-returns-then-room-reports
+returns-then-room-reports c =
+    let a = c.args in
+    let e : is_time a.time.0 ≡ true = sym c.is_time.ensures ∙ not-false _ c.if-not-is_time.false-raw in
     rw (e, lt-ltb a.room (3 * a.reports) (omega arith))
 
-returns-3 : tie.Need-returns-3
-returns-3 c =
-    let a = c.before.before.before.args in
-    let e : is_time a.time.0 ≡ true = sym c.before.before.is-time.ensures ∙ not-false _ c.before.if1.false in
+returns-else-room-reports : tie.Need-returns-else-room-reports
+returns-else-room-reports c =
+    let a = c.args in
+    let e : is_time a.time.0 ≡ true = sym c.is_time.ensures ∙ not-false _ c.if-not-is_time.false-raw in
     rw (e, le-ltb a.room (3 * a.reports) (omega arith))
 
-pub refusal-spec : {M : Type 1} → statement M
-refusal-spec = tie.close (tie.spec is-time-requires returns mul-if2 returns-2 returns-3)
+pub refusal_spec : {M : Type 1} → statement M
+refusal_spec = tie.close (tie.spec is_time-requires returns-then-not-is_time overflow_mul-reports returns-then-room-reports returns-else-room-reports)

@@ -11,52 +11,52 @@ use borrow.Author.Rules.{rules}
 use Rattle.sweeps.proofs.prune.some_down.Statement.{statement}
 use Rattle.sweeps.proofs.prune.some_down.Tie as tie
 
-abbrev invariant-loop : tie.invariant-loop
-invariant-loop n flags j₀ j = (j ≤ n) × (length flags ≡ 32) × (any not (drop j (take n flags)) ≡ any not (take n flags))
+abbrev invariant-loop-j : tie.invariant-loop-j
+invariant-loop-j n flags j₀ j = (j ≤ n) × (length flags ≡ 32) × (any not (drop j (take n flags)) ≡ any not (take n flags))
 
-abbrev decreases-loop : tie.decreases-loop
-decreases-loop n flags j₀ j = n - j
+abbrev decreases-loop-j : tie.decreases-loop-j
+decreases-loop-j n flags j₀ j = n - j
 
-loop-holds : tie.Need-loop-init invariant-loop decreases-loop
-loop-holds c = search rules
+loop-j-init : tie.Need-loop-j-init invariant-loop-j decreases-loop-j
+loop-j-init c = search rules
 
-array-read-if1 : tie.Need-array-read-if1 invariant-loop decreases-loop
-array-read-if1 c = search rules
+bounds-flags-j : tie.Need-bounds-flags-j invariant-loop-j decreases-loop-j
+bounds-flags-j c = search rules
 
-returns : tie.Need-returns invariant-loop decreases-loop
+returns-then-not-flags-j : tie.Need-returns-then-not-flags-j invariant-loop-j decreases-loop-j
+returns-then-not-flags-j c =
+    let l = c.loop-j in
+    let a = c.args in
+    sym (any_hit not false a.flags l.j a.n (omega arith) (omega arith) c.if-not-flags-j.true-raw) ∙ l.invariant.2
+
+overflow_add-j : tie.Need-overflow_add-j invariant-loop-j decreases-loop-j
+overflow_add-j c = search rules
+
+loop-j-smaller : tie.Need-loop-j-smaller invariant-loop-j decreases-loop-j
+loop-j-smaller c = search rules
+
+loop-j-preserved : tie.Need-loop-j-preserved invariant-loop-j decreases-loop-j
+loop-j-preserved c =
+    let l = c.loop-j in
+    let a = c.args in
+    (omega arith, l.invariant.1, any_miss not false a.flags l.j a.n (omega arith) (omega arith) c.if-not-flags-j.false-raw ∙ l.invariant.2)
+
+returns : tie.Need-returns invariant-loop-j decreases-loop-j
 returns c =
-    let l = c.before.before.loop in
-    let a = c.before.before.before.args in
-    sym (any_hit not false a.t1 l.j a.n (omega arith) (omega arith) c.if1.true) ∙ l.invariant.2
+    let l = c.loop-j in
+    let a = c.args in
+    sym (any-end not a.flags l.j a.n (omega arith) (omega arith)) ∙ l.invariant.2
 
-add-j : tie.Need-overflow-add-j invariant-loop decreases-loop
-add-j c = search rules
-
-loop-less : tie.Need-loop-smaller invariant-loop decreases-loop
-loop-less c = search rules
-
-loop-again : tie.Need-loop-preserved invariant-loop decreases-loop
-loop-again c =
-    let l = c.before.before.loop in
-    let a = c.before.before.before.args in
-    (omega arith, l.invariant.1, any_miss not false a.t1 l.j a.n (omega arith) (omega arith) c.if1.false ∙ l.invariant.2)
-
-returns-2 : tie.Need-returns-2 invariant-loop decreases-loop
-returns-2 c =
-    let l = c.before.loop in
-    let a = c.before.before.args in
-    sym (any-end not a.t1 l.j a.n (omega arith) (omega arith)) ∙ l.invariant.2
-
-pub some-down-spec : {M : Type 1} → statement M
-some-down-spec =
+pub some_down_spec : {M : Type 1} → statement M
+some_down_spec =
     tie.close
     (tie.spec
-    invariant-loop
-    decreases-loop
-    loop-holds
-    array-read-if1
-    returns
-    add-j
-    loop-less
-    loop-again
-    returns-2)
+    invariant-loop-j
+    decreases-loop-j
+    loop-j-init
+    bounds-flags-j
+    returns-then-not-flags-j
+    overflow_add-j
+    loop-j-smaller
+    loop-j-preserved
+    returns)

@@ -22,119 +22,115 @@ use Rattle.sweeps.proofs.prune.with_needs.Tie as tie
 nobody : Departure
 nobody = record { shard = 0; cut = 0; stamp = none }
 
-abbrev invariant-loop : tie.invariant-loop
-invariant-loop e local shards zeros cuts n out₀ j₀ out j =
+abbrev invariant-loop-j : tie.invariant-loop-j
+invariant-loop-j e local shards zeros cuts n out₀ j₀ out j =
     (j ≤ n) × (length out ≡ 32) × ((ds : List Departure) → Columns ds shards zeros cuts n → marking local.0 (plain_entry e) ds n out j ≡ zip_by (or_holds local.0 (plain_entry e)) (take n out₀) ds)
 
-abbrev decreases-loop : tie.decreases-loop
-decreases-loop e local shards zeros cuts n out₀ j₀ out j = n - j
+abbrev decreases-loop-j : tie.decreases-loop-j
+decreases-loop-j e local shards zeros cuts n out₀ j₀ out j = n - j
 
 -- as many as there are departures
-count : (s : tie.Start invariant-loop decreases-loop) (ds : List Departure) → Columns ds s.args.shards.now s.args.zeros.now s.args.cuts.now s.args.n → length ds ≡ s.args.n
+count : (s : tie.Start invariant-loop-j decreases-loop-j) (ds : List Departure) → Columns ds s.args.shards.now s.args.zeros.now s.args.cuts.now s.args.n → length ds ≡ s.args.n
 count s ds w = front_length shard_of s.args.shards.now s.args.n ds (omega arith) w.shards
 
-loop-holds : tie.Need-loop-init invariant-loop decreases-loop
-loop-holds c = (omega arith, search rules, λ ds s. refl)
+loop-j-init : tie.Need-loop-j-init invariant-loop-j decreases-loop-j
+loop-j-init c = (omega arith, search rules, λ ds s. refl)
 
-array-read-if1 : tie.Need-array-read-if1 invariant-loop decreases-loop
-array-read-if1 c = search rules
+bounds-out-j : tie.Need-bounds-out-j invariant-loop-j decreases-loop-j
+bounds-out-j c = search rules
 
-add-j : tie.Need-overflow-add-j invariant-loop decreases-loop
-add-j c = search rules
+overflow_add-j : tie.Need-overflow_add-j invariant-loop-j decreases-loop-j
+overflow_add-j c = search rules
 
-loop-less : tie.Need-loop-smaller invariant-loop decreases-loop
-loop-less c = search rules
+loop-j-smaller-then-out-j : tie.Need-loop-j-smaller-then-out-j invariant-loop-j decreases-loop-j
+loop-j-smaller-then-out-j c = search rules
 
-loop-again : tie.Need-loop-preserved invariant-loop decreases-loop
-loop-again c =
-    let s = c.before.before.before in
-    let l = c.before.before.loop in
-    let a = s.args in (
+loop-j-preserved-then-out-j : tie.Need-loop-j-preserved-then-out-j invariant-loop-j decreases-loop-j
+loop-j-preserved-then-out-j c =
+    let l = c.loop-j in
+    let a = c.args in (
       omega arith,
       l.invariant.1,
       λ ds w.
-          mark_kept a.local.0 (plain_entry a.e) ds a.n l.out l.j (omega arith) (count s ds w) nobody (omega arith) c.if1.true
+          mark_kept a.local.0 (plain_entry a.e) ds a.n l.out l.j (omega arith) (count c ds w) nobody (omega arith) c.if-out-j.true
           ∙ l.invariant.2 ds w,
     )
 
-mul-t15 : tie.Need-overflow-mul-t15 invariant-loop decreases-loop
-mul-t15 c = search rules
+offset_bounds-shards-j : tie.Need-offset_bounds-shards-j invariant-loop-j decreases-loop-j
+offset_bounds-shards-j c = search rules
 
-element-copy-out-t18 : tie.Need-element-copy-out-t18 invariant-loop decreases-loop
-element-copy-out-t18 c = search rules
+bounds-shards-j : tie.Need-bounds-shards-j invariant-loop-j decreases-loop-j
+bounds-shards-j c = search rules
 
-mul-needs : tie.Need-overflow-mul-needs invariant-loop decreases-loop
-mul-needs c = search rules
+offset_bounds-zeros-j : tie.Need-offset_bounds-zeros-j invariant-loop-j decreases-loop-j
+offset_bounds-zeros-j c = search rules
 
-element-copy-out-needs : tie.Need-element-copy-out-needs invariant-loop decreases-loop
-element-copy-out-needs c = search rules
+bounds-zeros-j : tie.Need-bounds-zeros-j invariant-loop-j decreases-loop-j
+bounds-zeros-j c = search rules
 
-mul-t24 : tie.Need-overflow-mul-t24 invariant-loop decreases-loop
-mul-t24 c = search rules
+offset_bounds-cuts-j : tie.Need-offset_bounds-cuts-j invariant-loop-j decreases-loop-j
+offset_bounds-cuts-j c = search rules
 
-element-copy-out-t27 : tie.Need-element-copy-out-t27 invariant-loop decreases-loop
-element-copy-out-t27 c = search rules
+bounds-cuts-j : tie.Need-bounds-cuts-j invariant-loop-j decreases-loop-j
+bounds-cuts-j c = search rules
 
-needs-requires : tie.Need-needs-requires invariant-loop decreases-loop
+needs-requires : tie.Need-needs-requires invariant-loop-j decreases-loop-j
 needs-requires c κs =
-    let s = c.before.before.before.before.before.before in
-    let l = c.before.before.before.before.before.loop in
-    (s.requires.0, (s.requires.1.0, every_at (λ z. z < 64) 0 l.j s.args.zeros.now (omega arith) s.requires.1.1.4))
+    let l = c.loop-j in
+    (c.requires.0, (c.requires.1.0, every_at (λ z. z < 64) 0 l.j c.args.zeros.now (omega arith) c.requires.1.1.4))
 
-array-write-out : tie.Need-array-write-out invariant-loop decreases-loop
-array-write-out c = search rules
+bounds-out-j-else-out-j : tie.Need-bounds-out-j-else-out-j invariant-loop-j decreases-loop-j
+bounds-out-j-else-out-j c = search rules
 
-add-j-2 : tie.Need-overflow-add-j-2 invariant-loop decreases-loop
-add-j-2 c = search rules
+overflow_add-j-else-out-j : tie.Need-overflow_add-j-else-out-j invariant-loop-j decreases-loop-j
+overflow_add-j-else-out-j c = search rules
 
-loop-less-2 : tie.Need-loop-smaller-2 invariant-loop decreases-loop
-loop-less-2 c = search rules
+loop-j-smaller : tie.Need-loop-j-smaller invariant-loop-j decreases-loop-j
+loop-j-smaller c = search rules
 
-loop-again-2 : tie.Need-loop-preserved-2 invariant-loop decreases-loop
-loop-again-2 c =
-    let s = c.before.before.before.before.before.before.before in
-    let l = c.before.before.before.before.before.before.loop in
-    let a = s.args in (
+loop-j-preserved : tie.Need-loop-j-preserved invariant-loop-j decreases-loop-j
+loop-j-preserved c =
+    let l = c.loop-j in
+    let a = c.args in (
       omega arith,
       length-set l.out l.j c.needs.result ∙ l.invariant.1,
       λ ds w.
           let d = get_or ds l.j nobody in
-          let good = every_at GoodDeparture nobody l.j ds (omega (arith, count s ds w)) w.good in
+          let good = every_at GoodDeparture nobody l.j ds (omega (arith, count c ds w)) w.good in
           let here = c.needs.ensures d good.shard
           (front_at shard_of a.shards.now a.n ds (omega arith) w.shards l.j 0 nobody (omega arith))
           (front_at zeros_of a.zeros.now a.n ds (omega arith) w.zeros l.j 0 nobody (omega arith))
           (front_at cut_of a.cuts.now a.n ds (omega arith) w.cuts l.j 0 nobody (omega arith)) in
-          mark_new a.local.0 (plain_entry a.e) ds a.n l.out l.j (omega arith) (count s ds w) nobody c.needs.result (omega arith) c.before.before.before.before.if1.false here
+          mark_new a.local.0 (plain_entry a.e) ds a.n l.out l.j (omega arith) (count c ds w) nobody c.needs.result (omega arith) c.if-out-j.false here
           ∙ l.invariant.2 ds w,
     )
 
-returns : tie.Need-returns invariant-loop decreases-loop
+returns : tie.Need-returns invariant-loop-j decreases-loop-j
 returns c ds w =
-    let s = c.before.before in
-    let l = c.before.loop in
-    let a = s.args in
-    sym (mark_end a.local.0 (plain_entry a.e) ds a.n l.out l.j (omega arith) (count s ds w) (omega arith) (omega arith)) ∙ l.invariant.2 ds w
+    let l = c.loop-j in
+    let a = c.args in
+    sym (mark_end a.local.0 (plain_entry a.e) ds a.n l.out l.j (omega arith) (count c ds w) (omega arith) (omega arith)) ∙ l.invariant.2 ds w
 
-pub with-needs-spec : {M : Type 1} → statement M
-with-needs-spec =
+pub with_needs_spec : {M : Type 1} → statement M
+with_needs_spec =
     tie.close
     (tie.spec
-    invariant-loop
-    decreases-loop
-    loop-holds
-    array-read-if1
-    add-j
-    loop-less
-    loop-again
-    mul-t15
-    element-copy-out-t18
-    mul-needs
-    element-copy-out-needs
-    mul-t24
-    element-copy-out-t27
+    invariant-loop-j
+    decreases-loop-j
+    loop-j-init
+    bounds-out-j
+    overflow_add-j
+    loop-j-smaller-then-out-j
+    loop-j-preserved-then-out-j
+    offset_bounds-shards-j
+    bounds-shards-j
+    offset_bounds-zeros-j
+    bounds-zeros-j
+    offset_bounds-cuts-j
+    bounds-cuts-j
     needs-requires
-    array-write-out
-    add-j-2
-    loop-less-2
-    loop-again-2
+    bounds-out-j-else-out-j
+    overflow_add-j-else-out-j
+    loop-j-smaller
+    loop-j-preserved
     returns)

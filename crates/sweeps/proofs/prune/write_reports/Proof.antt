@@ -11,63 +11,61 @@ use borrow.Author.Rules.{rules}
 use Rattle.sweeps.proofs.prune.write_reports.Statement.{statement}
 use Rattle.sweeps.proofs.prune.write_reports.Tie as tie
 
-abbrev invariant-loop : tie.invariant-loop
-invariant-loop n lent₀ words i₀ lent i = (i ≤ n) × (length lent ≡ length lent₀) × (sets lent i (drop i (take n words)) ≡ sets lent₀ 0 (take n words))
+abbrev invariant-loop-i : tie.invariant-loop-i
+invariant-loop-i n lent₀ words i₀ lent i = (i ≤ n) × (length lent ≡ length lent₀) × (sets lent i (drop i (take n words)) ≡ sets lent₀ 0 (take n words))
 
-abbrev decreases-loop : tie.decreases-loop
-decreases-loop n lent₀ words i₀ lent i = n - i
+abbrev decreases-loop-i : tie.decreases-loop-i
+decreases-loop-i n lent₀ words i₀ lent i = n - i
 
-loop-holds : tie.Need-loop-init invariant-loop decreases-loop
-loop-holds c = search rules
+loop-i-init : tie.Need-loop-i-init invariant-loop-i decreases-loop-i
+loop-i-init c = search rules
 
-mul-lent : tie.Need-overflow-mul-lent invariant-loop decreases-loop
-mul-lent c = search rules
+offset_bounds-words-i : tie.Need-offset_bounds-words-i invariant-loop-i decreases-loop-i
+offset_bounds-words-i c = search rules
 
-array-read-lent : tie.Need-array-read-lent invariant-loop decreases-loop
-array-read-lent c = search rules
+bounds-words-i : tie.Need-bounds-words-i invariant-loop-i decreases-loop-i
+bounds-words-i c = search rules
 
-mul-lent-2 : tie.Need-overflow-mul-lent-2 invariant-loop decreases-loop
-mul-lent-2 c = search rules
+offset_bounds-lent-i : tie.Need-offset_bounds-lent-i invariant-loop-i decreases-loop-i
+offset_bounds-lent-i c = search rules
 
-slice-write-lent : tie.Need-slice-write-lent invariant-loop decreases-loop
-slice-write-lent c = search rules
+bounds-lent-i : tie.Need-bounds-lent-i invariant-loop-i decreases-loop-i
+bounds-lent-i c = search rules
 
-add-i : tie.Need-overflow-add-i invariant-loop decreases-loop
-add-i c = search rules
+overflow_add-i : tie.Need-overflow_add-i invariant-loop-i decreases-loop-i
+overflow_add-i c = search rules
 
-loop-less : tie.Need-loop-smaller invariant-loop decreases-loop
-loop-less c = search rules
+loop-i-smaller : tie.Need-loop-i-smaller invariant-loop-i decreases-loop-i
+loop-i-smaller c = search rules
 
-loop-again : tie.Need-loop-preserved invariant-loop decreases-loop
-loop-again c =
-    let s = c.before.before in
-    let l = c.before.loop in
-    let f : length s.args.t1 ≡ 144 = search rules in
-    (omega arith, length-set l.lent l.i _ ∙ l.invariant.1, rw (add-one l.i) (rw (rest-cons 0 s.args.t1 l.i s.args.n (omega arith) (omega arith), add-one l.i) at l.invariant.2))
+loop-i-preserved : tie.Need-loop-i-preserved invariant-loop-i decreases-loop-i
+loop-i-preserved c =
+    let l = c.loop-i in
+    let f : length c.args.words ≡ 144 = search rules in
+    (omega arith, length-set l.lent l.i _ ∙ l.invariant.1, rw (add-one l.i) (rw (rest-cons 0 c.args.words l.i c.args.n (omega arith) (omega arith), add-one l.i) at l.invariant.2))
 
-same_length : tie.Need-same-length invariant-loop decreases-loop
-same_length c = search rules
+shape_of-lent : tie.Need-shape_of-lent invariant-loop-i decreases-loop-i
+shape_of-lent c = search rules
 
-returns : tie.Need-returns invariant-loop decreases-loop
+returns : tie.Need-returns invariant-loop-i decreases-loop-i
 returns c =
-    let s = c.before.before in
-    let l = c.before.loop in
-    let f : length s.args.t1 ≡ 144 = search rules in
-    rw (rest_end s.args.t1 l.i s.args.n (omega arith) (omega arith)) at l.invariant.2
+    let l = c.loop-i in
+    let f : length c.args.words ≡ 144 = search rules in
+    rw (rest_end c.args.words l.i c.args.n (omega arith) (omega arith)) at l.invariant.2
 
-pub write-reports-spec : {M : Type 1} → statement M
-write-reports-spec =
+pub write_reports_spec : {M : Type 1} → statement M
+write_reports_spec =
     tie.close
     (tie.spec
-    invariant-loop
-    decreases-loop
-    loop-holds
-    mul-lent
-    array-read-lent
-    mul-lent-2
-    slice-write-lent
-    add-i
-    loop-less
-    loop-again
-    same_length
+    invariant-loop-i
+    decreases-loop-i
+    loop-i-init
+    offset_bounds-words-i
+    bounds-words-i
+    offset_bounds-lent-i
+    bounds-lent-i
+    overflow_add-i
+    loop-i-smaller
+    loop-i-preserved
+    shape_of-lent
     returns)
