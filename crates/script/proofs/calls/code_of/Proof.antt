@@ -6,12 +6,12 @@ use borrow.Author.Rules.{rules}
 use Rattle.script.proofs.calls.code_of.Statement.{statement}
 use Rattle.script.proofs.calls.code_of.Tie as tie
 
-place-of-requires : tie.Need-place-of-requires
-place-of-requires c κs = search rules
+place_of-requires : tie.Need-place_of-requires
+place_of-requires c κs = search rules
 
 returns : tie.Need-returns
 unfolding code_of up_to
 returns c = c.place_of.ensures
 
-pub code-of-spec : {M : Type 1} → statement M
-code-of-spec = tie.close (tie.spec place-of-requires returns)
+pub code_of_spec : {M : Type 1} → statement M
+code_of_spec = tie.close (tie.spec place_of-requires returns)

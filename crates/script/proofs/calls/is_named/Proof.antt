@@ -6,35 +6,35 @@ use borrow.Author.Rules.{rules}
 use Rattle.script.proofs.calls.is_named.Statement.{statement}
 use Rattle.script.proofs.calls.is_named.Tie as tie
 
-slice-aggregate-token-end : tie.Need-slice-aggregate-token-end
-slice-aggregate-token-end c = search rules
+slice_bounds-token_end-end : tie.Need-slice_bounds-token_end-end
+slice_bounds-token_end-end c = search rules
 
-token-end-requires : tie.Need-token-end-requires
-token-end-requires c κs = search rules
+token_end-end-requires : tie.Need-token_end-end-requires
+token_end-end-requires c κs = search rules
 
-sub_same : tie.Need-overflow-sub-same
-sub_same c = search rules
+slice_bounds-same-count : tie.Need-slice_bounds-same-count
+slice_bounds-same-count c = search rules
 
-part-same-start : tie.Need-slice-bounds-same-start
-part-same-start c = search rules
+slice_bounds-same-start : tie.Need-slice_bounds-same-start
+slice_bounds-same-start c = search rules
 
-part-same-end : tie.Need-slice-bounds-same-end
-part-same-end c = search rules
+slice_bounds-same-end : tie.Need-slice_bounds-same-end
+slice_bounds-same-end c = search rules
 
 same-requires : tie.Need-same-requires
 same-requires c κs = search rules
 
 returns : tie.Need-returns
-returns c = c.same.ensures ∙ rw (c.before.before.before.token-end.ensures.2, zero-add, sub-zero) refl
+returns c = c.same.ensures ∙ rw (c.before.before.token_end-end.ensures.2, zero-add, sub-zero) refl
 
-pub is-named-spec : {M : Type 1} → statement M
-is-named-spec =
+pub is_named_spec : {M : Type 1} → statement M
+is_named_spec =
     tie.close
     (tie.spec
-    slice-aggregate-token-end
-    token-end-requires
-    sub_same
-    part-same-start
-    part-same-end
+    slice_bounds-token_end-end
+    token_end-end-requires
+    slice_bounds-same-count
+    slice_bounds-same-start
+    slice_bounds-same-end
     same-requires
     returns)

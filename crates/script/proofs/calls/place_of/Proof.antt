@@ -12,55 +12,55 @@ use borrow.Author.Rules.{rules}
 use Rattle.script.proofs.calls.place_of.Statement.{statement}
 use Rattle.script.proofs.calls.place_of.Tie as tie
 
-abbrev invariant-loop : tie.invariant-loop
-invariant-loop name rows code₀ code = (code ≤ codes) × (length rows ≡ codes) × (named code (map name_in (drop code rows)) name ≡ named 2 (map name_in (drop 2 rows)) name)
+abbrev invariant-loop-code : tie.invariant-loop-code
+invariant-loop-code name rows code₀ code = (code ≤ codes) × (length rows ≡ codes) × (named code (map name_in (drop code rows)) name ≡ named 2 (map name_in (drop 2 rows)) name)
 
-abbrev decreases-loop : tie.decreases-loop
-decreases-loop name rows code₀ code = codes - code
+abbrev decreases-loop-code : tie.decreases-loop-code
+decreases-loop-code name rows code₀ code = codes - code
 
-loop-holds : tie.Need-loop-init invariant-loop decreases-loop
-loop-holds c = search rules
+loop-code-init : tie.Need-loop-code-init invariant-loop-code decreases-loop-code
+loop-code-init c = search rules
 
-mul-is-named : tie.Need-overflow-mul-is-named invariant-loop decreases-loop
-mul-is-named c = search rules
+offset_bounds-rows-code : tie.Need-offset_bounds-rows-code invariant-loop-code decreases-loop-code
+offset_bounds-rows-code c = search rules
 
-array-copy-out-is-named : tie.Need-array-copy-out-is-named invariant-loop decreases-loop
-array-copy-out-is-named c = search rules
+bounds-rows-code : tie.Need-bounds-rows-code invariant-loop-code decreases-loop-code
+bounds-rows-code c = search rules
 
-is-named-requires : tie.Need-is-named-requires invariant-loop decreases-loop
-is-named-requires c κs = search rules
+is_named-requires : tie.Need-is_named-requires invariant-loop-code decreases-loop-code
+is_named-requires c κs = search rules
 
-cast-result : tie.Need-overflow-cast-result invariant-loop decreases-loop
-cast-result c = search rules
+overflow_cast-result : tie.Need-overflow_cast-result invariant-loop-code decreases-loop-code
+overflow_cast-result c = search rules
 
-returns : tie.Need-returns invariant-loop decreases-loop
-returns c = (omega arith, hit _ _ _ _ c.before.before.before.before.loop.invariant.2 _ (omega arith) (sym c.if1.true ∙ c.before.is-named.ensures))
+returns-then-is_named : tie.Need-returns-then-is_named invariant-loop-code decreases-loop-code
+returns-then-is_named c = (omega arith, hit _ _ _ _ c.before.before.before.before.loop-code.invariant.2 _ (omega arith) (sym c.if-is_named.true ∙ c.before.is_named.ensures))
 
-add-code : tie.Need-overflow-add-code invariant-loop decreases-loop
-add-code c = search rules
+overflow_add-code : tie.Need-overflow_add-code invariant-loop-code decreases-loop-code
+overflow_add-code c = search rules
 
-loop-less : tie.Need-loop-smaller invariant-loop decreases-loop
-loop-less c = search rules
+loop-code-smaller : tie.Need-loop-code-smaller invariant-loop-code decreases-loop-code
+loop-code-smaller c = search rules
 
-loop-again : tie.Need-loop-preserved invariant-loop decreases-loop
-loop-again c = (omega arith, c.before.before.before.before.loop.invariant.1, rw add-one (miss _ _ _ _ c.before.before.before.before.loop.invariant.2 _ (omega arith) (sym c.if1.false ∙ c.before.is-named.ensures)))
+loop-code-preserved : tie.Need-loop-code-preserved invariant-loop-code decreases-loop-code
+loop-code-preserved c = (omega arith, c.before.before.before.before.loop-code.invariant.1, rw add-one (miss _ _ _ _ c.before.before.before.before.loop-code.invariant.2 _ (omega arith) (sym c.if-is_named.false ∙ c.before.is_named.ensures)))
 
-returns-2 : tie.Need-returns-2 invariant-loop decreases-loop
-returns-2 c = (omega arith, nowhere _ _ _ _ c.before.loop.invariant.2 (omega arith))
+returns : tie.Need-returns invariant-loop-code decreases-loop-code
+returns c = (omega arith, nowhere _ _ _ _ c.before.loop-code.invariant.2 (omega arith))
 
-pub place-of-spec : {M : Type 1} → statement M
-place-of-spec =
+pub place_of_spec : {M : Type 1} → statement M
+place_of_spec =
     tie.close
     (tie.spec
-    invariant-loop
-    decreases-loop
-    loop-holds
-    mul-is-named
-    array-copy-out-is-named
-    is-named-requires
-    cast-result
-    returns
-    add-code
-    loop-less
-    loop-again
-    returns-2)
+    invariant-loop-code
+    decreases-loop-code
+    loop-code-init
+    offset_bounds-rows-code
+    bounds-rows-code
+    is_named-requires
+    overflow_cast-result
+    returns-then-is_named
+    overflow_add-code
+    loop-code-smaller
+    loop-code-preserved
+    returns)

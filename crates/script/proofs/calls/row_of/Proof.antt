@@ -10,15 +10,15 @@ use borrow.Author.Rules.{rules}
 use Rattle.script.proofs.calls.row_of.Statement.{statement}
 use Rattle.script.proofs.calls.row_of.Tie as tie
 
-mul-result : tie.Need-overflow-mul-result
-mul-result c = search rules
+offset_bounds-code : tie.Need-offset_bounds-code
+offset_bounds-code c = search rules
 
-array-copy-out-result : tie.Need-array-copy-out-result
-array-copy-out-result c = search rules
+bounds-code-code : tie.Need-bounds-code-code
+bounds-code-code c = search rules
 
 returns : tie.Need-returns
 unfolding count_of takes_list
 returns c = (sym (get_or-map (λ (row : Row). row.1) table c.before.args.code _), ap (ltb 0) (sym (get_or-map (λ (row : Row). row.2) table c.before.args.code _)))
 
-pub row-of-spec : {M : Type 1} → statement M
-row-of-spec = tie.close (tie.spec mul-result array-copy-out-result returns)
+pub row_of_spec : {M : Type 1} → statement M
+row_of_spec = tie.close (tie.spec offset_bounds-code bounds-code-code returns)

@@ -5,63 +5,63 @@ use borrow.Author.Rules.{rules}
 use Rattle.script.proofs.lines.next_line.Statement.{statement}
 use Rattle.script.proofs.lines.next_line.Tie as tie
 
-abbrev invariant-loop : tie.invariant-loop
-invariant-loop buf₀ now-at₀ turns₀ buf now-at turns = Within now-at
+abbrev invariant-loop-turns : tie.invariant-loop-turns
+invariant-loop-turns buf₀ now-at₀ turns₀ buf now-at turns = Within now-at
 
-abbrev decreases-loop : tie.decreases-loop
-decreases-loop buf₀ now-at₀ turns₀ buf now-at turns = turns
+abbrev decreases-loop-turns : tie.decreases-loop-turns
+decreases-loop-turns buf₀ now-at₀ turns₀ buf now-at turns = turns
 
-loop-holds : tie.Need-loop-init invariant-loop decreases-loop
-loop-holds c = search rules
+loop-turns-init : tie.Need-loop-turns-init invariant-loop-turns decreases-loop-turns
+loop-turns-init c = search rules
 
-newline-requires : tie.Need-newline-requires invariant-loop decreases-loop
-newline-requires c κs = search rules
+newline-end-requires : tie.Need-newline-end-requires invariant-loop-turns decreases-loop-turns
+newline-end-requires c κs = search rules
 
-line-requires : tie.Need-line-requires invariant-loop decreases-loop
+line-requires : tie.Need-line-requires invariant-loop-turns decreases-loop-turns
 line-requires c κs = search rules
 
-returns : tie.Need-returns invariant-loop decreases-loop
-returns c = search rules
+returns-then-end-filled : tie.Need-returns-then-end-filled invariant-loop-turns decreases-loop-turns
+returns-then-end-filled c = search rules
 
-last-requires : tie.Need-last-requires invariant-loop decreases-loop
+last-requires : tie.Need-last-requires invariant-loop-turns decreases-loop-turns
 last-requires c κs = search rules
 
-returns-2 : tie.Need-returns-2 invariant-loop decreases-loop
-returns-2 c = search rules
+returns-then-now_at : tie.Need-returns-then-now_at invariant-loop-turns decreases-loop-turns
+returns-then-now_at c = search rules
 
-more-requires : tie.Need-more-requires invariant-loop decreases-loop
-more-requires c κs = search rules
+more-now_at-requires : tie.Need-more-now_at-requires invariant-loop-turns decreases-loop-turns
+more-now_at-requires c κs = search rules
 
-sub-turns : tie.Need-overflow-sub-turns invariant-loop decreases-loop
-sub-turns c = search rules
+overflow_sub-turns : tie.Need-overflow_sub-turns invariant-loop-turns decreases-loop-turns
+overflow_sub-turns c = search rules
 
-loop-less : tie.Need-loop-smaller invariant-loop decreases-loop
-loop-less c = search rules
+loop-turns-smaller : tie.Need-loop-turns-smaller invariant-loop-turns decreases-loop-turns
+loop-turns-smaller c = search rules
 
-loop-again : tie.Need-loop-preserved invariant-loop decreases-loop
-loop-again c = search rules
+loop-turns-preserved : tie.Need-loop-turns-preserved invariant-loop-turns decreases-loop-turns
+loop-turns-preserved c = search rules
 
-last-requires-2 : tie.Need-last-requires-2 invariant-loop decreases-loop
+last-requires-2 : tie.Need-last-requires-2 invariant-loop-turns decreases-loop-turns
 last-requires-2 c κs = search rules
 
-returns-3 : tie.Need-returns-3 invariant-loop decreases-loop
-returns-3 c = search rules
+returns : tie.Need-returns invariant-loop-turns decreases-loop-turns
+returns c = search rules
 
-pub next-line-spec : {M : Type 1} → statement M
-next-line-spec =
+pub next_line_spec : {M : Type 1} → statement M
+next_line_spec =
     tie.close
     (tie.spec
-    invariant-loop
-    decreases-loop
-    loop-holds
-    newline-requires
+    invariant-loop-turns
+    decreases-loop-turns
+    loop-turns-init
+    newline-end-requires
     line-requires
-    returns
+    returns-then-end-filled
     last-requires
-    returns-2
-    more-requires
-    sub-turns
-    loop-less
-    loop-again
+    returns-then-now_at
+    more-now_at-requires
+    overflow_sub-turns
+    loop-turns-smaller
+    loop-turns-preserved
     last-requires-2
-    returns-3)
+    returns)

@@ -7,51 +7,51 @@ use borrow.Author.Rules.{rules}
 use Rattle.script.proofs.lines.shift.Statement.{statement}
 use Rattle.script.proofs.lines.shift.Tie as tie
 
-abbrev invariant-loop : tie.invariant-loop
-invariant-loop buf₀ from to i₀ buf i = (from ≤ i) × (i ≤ to) × (length buf ≡ length buf₀)
+abbrev invariant-loop-i : tie.invariant-loop-i
+invariant-loop-i buf₀ from to i₀ buf i = (from ≤ i) × (i ≤ to) × (length buf ≡ length buf₀)
 
-abbrev decreases-loop : tie.decreases-loop
-decreases-loop buf₀ from to i₀ buf i = to - i
+abbrev decreases-loop-i : tie.decreases-loop-i
+decreases-loop-i buf₀ from to i₀ buf i = to - i
 
-loop-holds : tie.Need-loop-init invariant-loop decreases-loop
-loop-holds c = search rules
+loop-i-init : tie.Need-loop-i-init invariant-loop-i decreases-loop-i
+loop-i-init c = search rules
 
-slice-read-buf : tie.Need-slice-read-buf invariant-loop decreases-loop
-slice-read-buf c = search rules
+bounds-buf-i : tie.Need-bounds-buf-i invariant-loop-i decreases-loop-i
+bounds-buf-i c = search rules
 
-sub-buf : tie.Need-overflow-sub-buf invariant-loop decreases-loop
-sub-buf c = search rules
+overflow_sub-buf : tie.Need-overflow_sub-buf invariant-loop-i decreases-loop-i
+overflow_sub-buf c = search rules
 
-slice-write-buf : tie.Need-slice-write-buf invariant-loop decreases-loop
-slice-write-buf c = search rules
+bounds-buf-i-in-loop-i : tie.Need-bounds-buf-i-in-loop-i invariant-loop-i decreases-loop-i
+bounds-buf-i-in-loop-i c = search rules
 
-add-i : tie.Need-overflow-add-i invariant-loop decreases-loop
-add-i c = search rules
+overflow_add-i : tie.Need-overflow_add-i invariant-loop-i decreases-loop-i
+overflow_add-i c = search rules
 
-loop-less : tie.Need-loop-smaller invariant-loop decreases-loop
-loop-less c = search rules
+loop-i-smaller : tie.Need-loop-i-smaller invariant-loop-i decreases-loop-i
+loop-i-smaller c = search rules
 
-loop-again : tie.Need-loop-preserved invariant-loop decreases-loop
-loop-again c = search rules
+loop-i-preserved : tie.Need-loop-i-preserved invariant-loop-i decreases-loop-i
+loop-i-preserved c = search rules
 
-same_length : tie.Need-same-length invariant-loop decreases-loop
-same_length c = search rules
+shape_of-buf : tie.Need-shape_of-buf invariant-loop-i decreases-loop-i
+shape_of-buf c = search rules
 
-returns : tie.Need-returns invariant-loop decreases-loop
+returns : tie.Need-returns invariant-loop-i decreases-loop-i
 returns c = search rules
 
-pub shift-spec : {M : Type 1} → statement M
-shift-spec =
+pub shift_spec : {M : Type 1} → statement M
+shift_spec =
     tie.close
     (tie.spec
-    invariant-loop
-    decreases-loop
-    loop-holds
-    slice-read-buf
-    sub-buf
-    slice-write-buf
-    add-i
-    loop-less
-    loop-again
-    same_length
+    invariant-loop-i
+    decreases-loop-i
+    loop-i-init
+    bounds-buf-i
+    overflow_sub-buf
+    bounds-buf-i-in-loop-i
+    overflow_add-i
+    loop-i-smaller
+    loop-i-preserved
+    shape_of-buf
     returns)

@@ -11,66 +11,66 @@ use borrow.Author.Rules.{rules}
 use Rattle.script.proofs.numbers.spell.Statement.{statement}
 use Rattle.script.proofs.numbers.spell.Tie as tie
 
-abbrev invariant-loop : tie.invariant-loop
-invariant-loop n out₀ rest₀ at₀ out rest at = (1 ≤ at) × (at ≤ 20) × (length out ≡ 20) × (rest < 10 ^ at) × (spelled at rest ++ drop at out ≡ spelled 20 n)
+abbrev invariant-loop-rest : tie.invariant-loop-rest
+invariant-loop-rest n out₀ rest₀ at₀ out rest at = (1 ≤ at) × (at ≤ 20) × (length out ≡ 20) × (rest < 10 ^ at) × (spelled at rest ++ drop at out ≡ spelled 20 n)
 
-abbrev decreases-loop : tie.decreases-loop
-decreases-loop n out₀ rest₀ at₀ out rest at = at
+abbrev decreases-loop-rest : tie.decreases-loop-rest
+decreases-loop-rest n out₀ rest₀ at₀ out rest at = at
 
-loop-holds : tie.Need-loop-init invariant-loop decreases-loop
-loop-holds c = (omega arith, omega arith, omega arith, search rules, unput c.before.args.out.now _ (omega arith))
+loop-rest-init : tie.Need-loop-rest-init invariant-loop-rest decreases-loop-rest
+loop-rest-init c = (omega arith, omega arith, omega arith, search rules, unput c.before.args.out.now _ (omega arith))
 
-sub_at : tie.Need-overflow-sub-at invariant-loop decreases-loop
-sub_at c = omega arith
+overflow_sub-at : tie.Need-overflow_sub-at invariant-loop-rest decreases-loop-rest
+overflow_sub-at c = omega arith
 
-glyph-requires : tie.Need-glyph-requires invariant-loop decreases-loop
+glyph-requires : tie.Need-glyph-requires invariant-loop-rest decreases-loop-rest
 glyph-requires c κs = search rules
 
-slice-write-out : tie.Need-slice-write-out invariant-loop decreases-loop
-slice-write-out c = search rules
+bounds-out-at : tie.Need-bounds-out-at invariant-loop-rest decreases-loop-rest
+bounds-out-at c = search rules
 
-loop-less : tie.Need-loop-smaller invariant-loop decreases-loop
-loop-less c = search rules
+loop-rest-smaller : tie.Need-loop-rest-smaller invariant-loop-rest decreases-loop-rest
+loop-rest-smaller c = search rules
 
-loop-again : tie.Need-loop-preserved invariant-loop decreases-loop
-loop-again c =
-    let k : 2 ≤ c.before.before.loop.at = places _ _ (omega arith) c.before.before.loop.invariant.3 in (
+loop-rest-preserved : tie.Need-loop-rest-preserved invariant-loop-rest decreases-loop-rest
+loop-rest-preserved c =
+    let k : 2 ≤ c.before.before.loop-rest.at = places _ _ (omega arith) c.before.before.loop-rest.invariant.3 in (
       omega arith,
       omega arith,
       search rules,
-      tenth _ _ c.before.before.loop.invariant.0 c.before.before.loop.invariant.3,
-      more _ _ _ _ _ c.before.before.loop.invariant.0 (omega arith) (omega arith) c.glyph.ensures c.before.before.loop.invariant.4,
+      tenth _ _ c.before.before.loop-rest.invariant.0 c.before.before.loop-rest.invariant.3,
+      more _ _ _ _ _ c.before.before.loop-rest.invariant.0 (omega arith) (omega arith) c.glyph.ensures c.before.before.loop-rest.invariant.4,
     )
 
-sub-at-2 : tie.Need-overflow-sub-at-2 invariant-loop decreases-loop
-sub-at-2 c = search rules
+overflow_sub-at-2 : tie.Need-overflow_sub-at-2 invariant-loop-rest decreases-loop-rest
+overflow_sub-at-2 c = search rules
 
-glyph-requires-2 : tie.Need-glyph-requires-2 invariant-loop decreases-loop
+glyph-requires-2 : tie.Need-glyph-requires-2 invariant-loop-rest decreases-loop-rest
 glyph-requires-2 c κs = search rules
 
-slice-write-out-2 : tie.Need-slice-write-out-2 invariant-loop decreases-loop
-slice-write-out-2 c = search rules
+bounds-out-at-2 : tie.Need-bounds-out-at-2 invariant-loop-rest decreases-loop-rest
+bounds-out-at-2 c = search rules
 
-same_length : tie.Need-same-length invariant-loop decreases-loop
-same_length c = omega (arith, length-set c.before.before.loop.out (c.before.before.loop.at - 1) c.glyph2.result)
+shape_of-out : tie.Need-shape_of-out invariant-loop-rest decreases-loop-rest
+shape_of-out c = omega (arith, length-set c.before.before.loop-rest.out (c.before.before.loop-rest.at - 1) c.glyph-2.result)
 
-returns : tie.Need-returns invariant-loop decreases-loop
-returns c = (omega arith, last _ _ _ _ _ c.before.before.loop.invariant.0 (omega arith) (omega arith) c.glyph2.ensures c.before.before.loop.invariant.4)
+returns : tie.Need-returns invariant-loop-rest decreases-loop-rest
+returns c = (omega arith, last _ _ _ _ _ c.before.before.loop-rest.invariant.0 (omega arith) (omega arith) c.glyph-2.ensures c.before.before.loop-rest.invariant.4)
 
-pub spell-spec : {M : Type 1} → statement M
-spell-spec =
+pub spell_spec : {M : Type 1} → statement M
+spell_spec =
     tie.close
     (tie.spec
-    invariant-loop
-    decreases-loop
-    loop-holds
-    sub_at
+    invariant-loop-rest
+    decreases-loop-rest
+    loop-rest-init
+    overflow_sub-at
     glyph-requires
-    slice-write-out
-    loop-less
-    loop-again
-    sub-at-2
+    bounds-out-at
+    loop-rest-smaller
+    loop-rest-preserved
+    overflow_sub-at-2
     glyph-requires-2
-    slice-write-out-2
-    same_length
+    bounds-out-at-2
+    shape_of-out
     returns)

@@ -11,61 +11,61 @@ use borrow.Author.Rules.{rules}
 use Rattle.script.proofs.numbers.value_of.Statement.{statement}
 use Rattle.script.proofs.numbers.value_of.Tie as tie
 
-abbrev invariant-loop : tie.invariant-loop
-invariant-loop token value₀ i₀ value i = (i ≤ length token) × (value < 18446744073709551616) × (valued value (drop i token) ≡ number_of token)
+abbrev invariant-loop-i : tie.invariant-loop-i
+invariant-loop-i token value₀ i₀ value i = (i ≤ length token) × (value < 18446744073709551616) × (valued value (drop i token) ≡ number_of token)
 
-abbrev decreases-loop : tie.decreases-loop
-decreases-loop token value₀ i₀ value i = length token - i
+abbrev decreases-loop-i : tie.decreases-loop-i
+decreases-loop-i token value₀ i₀ value i = length token - i
 
-returns : tie.Need-returns invariant-loop decreases-loop
-returns c = no_token _ c.if1.true
+returns-then-token-eq0 : tie.Need-returns-then-token-eq0 invariant-loop-i decreases-loop-i
+returns-then-token-eq0 c = no_token _ c.if-token-eq0.true
 
-loop-holds : tie.Need-loop-init invariant-loop decreases-loop
-loop-holds c = (omega arith, omega arith, start _ c.if1.false)
+loop-i-init : tie.Need-loop-i-init invariant-loop-i decreases-loop-i
+loop-i-init c = (omega arith, omega arith, start _ c.if-token-eq0.false)
 
-shared-slice-read-with-digit : tie.Need-shared-slice-read-with-digit invariant-loop decreases-loop
-shared-slice-read-with-digit c = search rules
+bounds-token-i : tie.Need-bounds-token-i invariant-loop-i decreases-loop-i
+bounds-token-i c = search rules
 
-with-digit-requires : tie.Need-with-digit-requires invariant-loop decreases-loop
-with-digit-requires c κs = search rules
+with_digit-requires : tie.Need-with_digit-requires invariant-loop-i decreases-loop-i
+with_digit-requires c κs = search rules
 
-enum-known-next : tie.Need-enum-known-next invariant-loop decreases-loop
-enum-known-next c = search rules
+enum_known-next : tie.Need-enum_known-next invariant-loop-i decreases-loop-i
+enum_known-next c = search rules
 
-enum_told : tie.Need-enum-told invariant-loop decreases-loop
-enum_told c = search rules
+enum_told-1 : tie.Need-enum_told-1 invariant-loop-i decreases-loop-i
+enum_told-1 c = search rules
 
-returns-2 : tie.Need-returns-2 invariant-loop decreases-loop
-returns-2 c = at-refused _ _ _ c.before.before.before.before.before.loop.invariant.2 c.before.before.before.before.loop-test.true (sym c.enum_told.given.1 ∙ c.before.before.with-digit.ensures)
+returns-in_default : tie.Need-returns-in_default invariant-loop-i decreases-loop-i
+returns-in_default c = at-refused _ _ _ c.before.before.before.before.before.loop-i.invariant.2 c.before.before.before.before.loop-i-test.true (sym c.enum_told-1.given.1 ∙ c.before.before.with_digit.ensures)
 
-add-i : tie.Need-overflow-add-i invariant-loop decreases-loop
-add-i c = search rules
+overflow_add-i : tie.Need-overflow_add-i invariant-loop-i decreases-loop-i
+overflow_add-i c = search rules
 
-loop-less : tie.Need-loop-smaller invariant-loop decreases-loop
-loop-less c = search rules
+loop-i-smaller : tie.Need-loop-i-smaller invariant-loop-i decreases-loop-i
+loop-i-smaller c = search rules
 
-loop-again : tie.Need-loop-preserved invariant-loop decreases-loop
-loop-again c =
-    let q = at-taken _ _ _ c.before.before.before.before.before.before.loop.invariant.2 c.before.next.given.0.0 c.before.before.before.before.before.loop-test.true (sym c.before.next.given.1 ∙ c.before.before.before.with-digit.ensures) in
+loop-i-preserved : tie.Need-loop-i-preserved invariant-loop-i decreases-loop-i
+loop-i-preserved c =
+    let q = at-taken _ _ _ c.before.before.before.before.before.before.loop-i.invariant.2 c.before.next-1.given.0.0 c.before.before.before.before.before.loop-i-test.true (sym c.before.next-1.given.1 ∙ c.before.before.before.with_digit.ensures) in
     (omega arith, q.1, rw add-one q.0)
 
-returns-3 : tie.Need-returns-3 invariant-loop decreases-loop
-returns-3 c = at-end _ _ _ c.before.loop.invariant.2 c.loop-test.false (omega arith)
+returns : tie.Need-returns invariant-loop-i decreases-loop-i
+returns c = at-end _ _ _ c.before.loop-i.invariant.2 c.loop-i-test.false (omega arith)
 
-pub value-of-spec : {M : Type 1} → statement M
-value-of-spec =
+pub value_of_spec : {M : Type 1} → statement M
+value_of_spec =
     tie.close
     (tie.spec
-    invariant-loop
-    decreases-loop
-    returns
-    loop-holds
-    shared-slice-read-with-digit
-    with-digit-requires
-    enum-known-next
-    enum_told
-    returns-2
-    add-i
-    loop-less
-    loop-again
-    returns-3)
+    invariant-loop-i
+    decreases-loop-i
+    returns-then-token-eq0
+    loop-i-init
+    bounds-token-i
+    with_digit-requires
+    enum_known-next
+    enum_told-1
+    returns-in_default
+    overflow_add-i
+    loop-i-smaller
+    loop-i-preserved
+    returns)

@@ -7,55 +7,55 @@ use borrow.Author.Rules.{rules}
 use Rattle.script.proofs.numbers.with_digit.Statement.{statement}
 use Rattle.script.proofs.numbers.with_digit.Tie as tie
 
-returns : tie.Need-returns
-returns c = low _ _ _ c.if1.true
+returns-then-byte-lt48 : tie.Need-returns-then-byte-lt48
+returns-then-byte-lt48 c = low _ _ _ c.if-byte-lt48.true
 
-returns-2 : tie.Need-returns-2
-returns-2 c = high _ _ _ c.if2.true
+returns-then-byte-gt57 : tie.Need-returns-then-byte-gt57
+returns-then-byte-gt57 c = high _ _ _ c.if-byte-gt57.true
 
-wide-requires : tie.Need-wide-requires
-wide-requires c κs = search rules
+wide-digit-requires : tie.Need-wide-digit-requires
+wide-digit-requires c κs = search rules
 
-sub-digit : tie.Need-overflow-sub-digit
-sub-digit c = search rules
+overflow_sub-digit : tie.Need-overflow_sub-digit
+overflow_sub-digit c = search rules
 
-mul-t6 : tie.Need-overflow-mul-t6
-mul-t6 c = search rules
+overflow_mul-result : tie.Need-overflow_mul-result
+overflow_mul-result c = search rules
 
-add-t7 : tie.Need-overflow-add-t7
-add-t7 c = search rules
+overflow_add-result : tie.Need-overflow_add-result
+overflow_add-result c = search rules
 
-returns-3 : tie.Need-returns-3
-returns-3 c = fits _ _ _ (omega arith) (omega arith) (omega arith) (omega arith)
+returns-then-value-lt1844674407370955161 : tie.Need-returns-then-value-lt1844674407370955161
+returns-then-value-lt1844674407370955161 c = fits _ _ _ (omega arith) (omega arith) (omega arith) (omega arith)
 
-mul-t9 : tie.Need-overflow-mul-t9
-mul-t9 c = search rules
+overflow_mul-result-then-digit-lt6 : tie.Need-overflow_mul-result-then-digit-lt6
+overflow_mul-result-then-digit-lt6 c = search rules
 
-add-t10 : tie.Need-overflow-add-t10
-add-t10 c = search rules
+overflow_add-result-then-digit-lt6 : tie.Need-overflow_add-result-then-digit-lt6
+overflow_add-result-then-digit-lt6 c = search rules
 
-returns-4 : tie.Need-returns-4
-returns-4 c = fits _ _ _ (omega arith) (omega arith) (omega arith) (omega arith)
+returns-then-digit-lt6 : tie.Need-returns-then-digit-lt6
+returns-then-digit-lt6 c = fits _ _ _ (omega arith) (omega arith) (omega arith) (omega arith)
 
-returns-5 : tie.Need-returns-5
-returns-5 c = over _ _ (c.before.before.before.wide.result - 48) (omega arith) (omega arith) (omega arith) (omega arith)
+returns-else-digit-lt6 : tie.Need-returns-else-digit-lt6
+returns-else-digit-lt6 c = over _ _ (c.before.before.before.wide-digit.result - 48) (omega arith) (omega arith) (omega arith) (omega arith)
 
-returns-6 : tie.Need-returns-6
-returns-6 c = over _ _ (c.before.before.wide.result - 48) (omega arith) (omega arith) (omega arith) (omega (arith, c.if4.false))
+returns-else-value-eq1844674407370955161 : tie.Need-returns-else-value-eq1844674407370955161
+returns-else-value-eq1844674407370955161 c = over _ _ (c.before.before.wide-digit.result - 48) (omega arith) (omega arith) (omega arith) (omega (arith, c.if-value-eq1844674407370955161.false))
 
-pub with-digit-spec : {M : Type 1} → statement M
-with-digit-spec =
+pub with_digit_spec : {M : Type 1} → statement M
+with_digit_spec =
     tie.close
     (tie.spec
-    returns
-    returns-2
-    wide-requires
-    sub-digit
-    mul-t6
-    add-t7
-    returns-3
-    mul-t9
-    add-t10
-    returns-4
-    returns-5
-    returns-6)
+    returns-then-byte-lt48
+    returns-then-byte-gt57
+    wide-digit-requires
+    overflow_sub-digit
+    overflow_mul-result
+    overflow_add-result
+    returns-then-value-lt1844674407370955161
+    overflow_mul-result-then-digit-lt6
+    overflow_add-result-then-digit-lt6
+    returns-then-digit-lt6
+    returns-else-digit-lt6
+    returns-else-value-eq1844674407370955161)

@@ -7,14 +7,14 @@ use borrow.Author.Rules.{rules}
 use Rattle.script.proofs.parts.call.Statement.{statement}
 use Rattle.script.proofs.parts.call.Tie as tie
 
-takes-list-requires : tie.Need-takes-list-requires
-takes-list-requires c κs = search rules
+takes_list-requires : tie.Need-takes_list-requires
+takes_list-requires c κs = search rules
+
+returns-then-takes_list : tie.Need-returns-then-takes_list
+returns-then-takes_list c = record { known = search rules; numbers = search rules; words = search rules; takes = search rules; none = λ h. let z : ◌≡◌ {A = ℕ} 0 1 = cc in absurd (omega arith) }
 
 returns : tie.Need-returns
-returns c = record { known = search rules; numbers = search rules; words = search rules; takes = search rules; none = λ h. let z : ◌≡◌ {A = ℕ} 0 1 = cc in absurd (omega arith) }
+returns c = search rules
 
-returns-2 : tie.Need-returns-2
-returns-2 c = search rules
-
-pub call-spec : {M : Type 1} → statement M
-call-spec = tie.close (tie.spec takes-list-requires returns returns-2)
+pub call_spec : {M : Type 1} → statement M
+call_spec = tie.close (tie.spec takes_list-requires returns-then-takes_list returns)

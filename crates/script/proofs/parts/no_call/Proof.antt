@@ -9,5 +9,5 @@ use Rattle.script.proofs.parts.no_call.Tie as tie
 returns : tie.Need-returns
 returns c = record { known = search rules; numbers = search rules; words = search rules; takes = record { own = λ h. no_numbers c.args.code (search rules) }; none = λ h. refl }
 
-pub no-call-spec : {M : Type 1} → statement M
-no-call-spec = tie.close (tie.spec returns)
+pub no_call_spec : {M : Type 1} → statement M
+no_call_spec = tie.close (tie.spec returns)

@@ -6,14 +6,14 @@ use borrow.Author.Rules.{rules}
 use Rattle.script.proofs.parts.takes.Statement.{statement}
 use Rattle.script.proofs.parts.takes.Tie as tie
 
-count-of-requires : tie.Need-count-of-requires
-count-of-requires c κs = search rules
+count_of-own-requires : tie.Need-count_of-own-requires
+count_of-own-requires c κs = search rules
+
+returns-then-own-eq-ANY : tie.Need-returns-then-own-eq-ANY
+returns-then-own-eq-ANY c = λ h. record { own = λ n. absurd (n (sym c.before.count_of-own.ensures ∙ c.if-own-eq-ANY.true)) }
 
 returns : tie.Need-returns
-returns c = λ h. record { own = λ n. absurd (n (sym c.before.count_of.ensures ∙ c.if1.true)) }
+returns c = λ h. record { own = λ n. sym (eqb-true _ _ h) ∙ c.before.count_of-own.ensures }
 
-returns-2 : tie.Need-returns-2
-returns-2 c = λ h. record { own = λ n. sym (eqb-true _ _ h) ∙ c.before.count_of.ensures }
-
-pub takes-spec : {M : Type 1} → statement M
-takes-spec = tie.close (tie.spec count-of-requires returns returns-2)
+pub takes_spec : {M : Type 1} → statement M
+takes_spec = tie.close (tie.spec count_of-own-requires returns-then-own-eq-ANY returns)

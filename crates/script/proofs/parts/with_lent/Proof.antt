@@ -8,59 +8,59 @@ use borrow.Author.Rules.{rules}
 use Rattle.script.proofs.parts.with_lent.Statement.{statement}
 use Rattle.script.proofs.parts.with_lent.Tie as tie
 
-no-tail-requires : tie.Need-no-tail-requires
-no-tail-requires c κs = search rules
+no_tail-requires : tie.Need-no_tail-requires
+no_tail-requires c κs = search rules
+
+returns-then-at-line : tie.Need-returns-then-at-line
+returns-then-at-line c = c.no_tail.ensures ∙ lent_none c.before.before.before.args.line.now c.before.before.before.args.at _ (omega arith)
+
+overflow_add-begin : tie.Need-overflow_add-begin
+overflow_add-begin c = search rules
+
+token_end-end-requires : tie.Need-token_end-end-requires
+token_end-end-requires c κs = search rules
+
+no_tail-requires-then-end-line : tie.Need-no_tail-requires-then-end-line
+no_tail-requires-then-end-line c κs = search rules
+
+returns-then-end-line : tie.Need-returns-then-end-line
+returns-then-end-line c =
+    c.no_tail-then-end-line.ensures
+    ∙ lent_several _ _ _ _ (omega (arith, c.before.before.before.if-at-line.false)) c.before.before.token_end-end.ensures.2 c.before.if-end-line.true
+
+slice_bounds-value_of-count : tie.Need-slice_bounds-value_of-count
+slice_bounds-value_of-count c = search rules
+
+slice_bounds-value_of-start : tie.Need-slice_bounds-value_of-start
+slice_bounds-value_of-start c = search rules
+
+slice_bounds-value_of-end : tie.Need-slice_bounds-value_of-end
+slice_bounds-value_of-end c = search rules
+
+value_of-requires : tie.Need-value_of-requires
+value_of-requires c κs = search rules
+
+lent_number-requires : tie.Need-lent_number-requires
+lent_number-requires c κs = search rules
 
 returns : tie.Need-returns
-returns c = c.no-tail.ensures ∙ lent_none c.before.before.before.args.line.now c.before.before.before.args.at _ (omega arith)
+returns c =
+    c.lent_number.ensures ∙ ap (lent_number _) c.before.value_of_lem.ensures
+    ∙ lent_one _ _ _ _ (omega (arith, c.before.before.before.before.before.if-at-line.false)) c.before.before.before.before.token_end-end.ensures.2 c.before.before.before.if-end-line.false
 
-add_begin : tie.Need-overflow-add-begin
-add_begin c = search rules
-
-token-end-requires : tie.Need-token-end-requires
-token-end-requires c κs = search rules
-
-no-tail-requires-2 : tie.Need-no-tail-requires-2
-no-tail-requires-2 c κs = search rules
-
-returns-2 : tie.Need-returns-2
-returns-2 c =
-    c.no-tail2.ensures
-    ∙ lent_several _ _ _ _ (omega (arith, c.before.before.before.if1.false)) c.before.before.token-end.ensures.2 c.before.if2.true
-
-sub-value-of : tie.Need-overflow-sub-value-of
-sub-value-of c = search rules
-
-part-value-of-start : tie.Need-slice-bounds-value-of-start
-part-value-of-start c = search rules
-
-part-value-of-end : tie.Need-slice-bounds-value-of-end
-part-value-of-end c = search rules
-
-value-of-requires : tie.Need-value-of-requires
-value-of-requires c κs = search rules
-
-lent-number-requires : tie.Need-lent-number-requires
-lent-number-requires c κs = search rules
-
-returns-3 : tie.Need-returns-3
-returns-3 c =
-    c.lent-number.ensures ∙ ap (lent_number _) c.before.value_of_lem.ensures
-    ∙ lent_one _ _ _ _ (omega (arith, c.before.before.before.before.before.if1.false)) c.before.before.before.before.token-end.ensures.2 c.before.before.before.if2.false
-
-pub with-lent-spec : {M : Type 1} → statement M
-with-lent-spec =
+pub with_lent_spec : {M : Type 1} → statement M
+with_lent_spec =
     tie.close
     (tie.spec
-    no-tail-requires
-    returns
-    add_begin
-    token-end-requires
-    no-tail-requires-2
-    returns-2
-    sub-value-of
-    part-value-of-start
-    part-value-of-end
-    value-of-requires
-    lent-number-requires
-    returns-3)
+    no_tail-requires
+    returns-then-at-line
+    overflow_add-begin
+    token_end-end-requires
+    no_tail-requires-then-end-line
+    returns-then-end-line
+    slice_bounds-value_of-count
+    slice_bounds-value_of-start
+    slice_bounds-value_of-end
+    value_of-requires
+    lent_number-requires
+    returns)

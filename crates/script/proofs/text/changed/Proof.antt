@@ -6,51 +6,51 @@ use borrow.Author.Rules.{rules}
 use Rattle.script.proofs.text.changed.Statement.{statement}
 use Rattle.script.proofs.text.changed.Tie as tie
 
-abbrev invariant-loop : tie.invariant-loop
-invariant-loop lent n₀ n = n ≤ length lent
+abbrev invariant-loop-n : tie.invariant-loop-n
+invariant-loop-n lent n₀ n = n ≤ length lent
 
-abbrev decreases-loop : tie.decreases-loop
-decreases-loop lent n₀ n = n
+abbrev decreases-loop-n : tie.decreases-loop-n
+decreases-loop-n lent n₀ n = n
 
-loop-holds : tie.Need-loop-init invariant-loop decreases-loop
-loop-holds c = search rules
+loop-n-init : tie.Need-loop-n-init invariant-loop-n decreases-loop-n
+loop-n-init c = search rules
 
-sub-if1 : tie.Need-overflow-sub-if1 invariant-loop decreases-loop
-sub-if1 c = search rules
+overflow_sub-n : tie.Need-overflow_sub-n invariant-loop-n decreases-loop-n
+overflow_sub-n c = search rules
 
-mul-if1 : tie.Need-overflow-mul-if1 invariant-loop decreases-loop
-mul-if1 c = search rules
+offset_bounds-lent-n : tie.Need-offset_bounds-lent-n invariant-loop-n decreases-loop-n
+offset_bounds-lent-n c = search rules
 
-shared-slice-read-if1 : tie.Need-shared-slice-read-if1 invariant-loop decreases-loop
-shared-slice-read-if1 c = search rules
+bounds-lent-n : tie.Need-bounds-lent-n invariant-loop-n decreases-loop-n
+bounds-lent-n c = search rules
 
-returns : tie.Need-returns invariant-loop decreases-loop
+returns-then-lent-n : tie.Need-returns-then-lent-n invariant-loop-n decreases-loop-n
+returns-then-lent-n c = search rules
+
+overflow_sub-n-in-loop-n : tie.Need-overflow_sub-n-in-loop-n invariant-loop-n decreases-loop-n
+overflow_sub-n-in-loop-n c = search rules
+
+loop-n-smaller : tie.Need-loop-n-smaller invariant-loop-n decreases-loop-n
+loop-n-smaller c = search rules
+
+loop-n-preserved : tie.Need-loop-n-preserved invariant-loop-n decreases-loop-n
+loop-n-preserved c = search rules
+
+returns : tie.Need-returns invariant-loop-n decreases-loop-n
 returns c = search rules
 
-sub-n : tie.Need-overflow-sub-n invariant-loop decreases-loop
-sub-n c = search rules
-
-loop-less : tie.Need-loop-smaller invariant-loop decreases-loop
-loop-less c = search rules
-
-loop-again : tie.Need-loop-preserved invariant-loop decreases-loop
-loop-again c = search rules
-
-returns-2 : tie.Need-returns-2 invariant-loop decreases-loop
-returns-2 c = search rules
-
-pub changed-spec : {M : Type 1} → statement M
-changed-spec =
+pub changed_spec : {M : Type 1} → statement M
+changed_spec =
     tie.close
     (tie.spec
-    invariant-loop
-    decreases-loop
-    loop-holds
-    sub-if1
-    mul-if1
-    shared-slice-read-if1
-    returns
-    sub-n
-    loop-less
-    loop-again
-    returns-2)
+    invariant-loop-n
+    decreases-loop-n
+    loop-n-init
+    overflow_sub-n
+    offset_bounds-lent-n
+    bounds-lent-n
+    returns-then-lent-n
+    overflow_sub-n-in-loop-n
+    loop-n-smaller
+    loop-n-preserved
+    returns)

@@ -6,47 +6,47 @@ use borrow.Author.Rules.{rules}
 use Rattle.script.proofs.text.copy.Statement.{statement}
 use Rattle.script.proofs.text.copy.Tie as tie
 
-abbrev invariant-loop : tie.invariant-loop
-invariant-loop digits from buf₀ at i₀ to₀ buf i to = (from ≤ i) × (i ≤ 20) × (to + from ≡ at + i)
+abbrev invariant-loop-i : tie.invariant-loop-i
+invariant-loop-i digits from buf₀ at i₀ to₀ buf i to = (from ≤ i) × (i ≤ 20) × (to + from ≡ at + i)
 
-abbrev decreases-loop : tie.decreases-loop
-decreases-loop digits from buf₀ at i₀ to₀ buf i to = 20 - i
+abbrev decreases-loop-i : tie.decreases-loop-i
+decreases-loop-i digits from buf₀ at i₀ to₀ buf i to = 20 - i
 
-loop-holds : tie.Need-loop-init invariant-loop decreases-loop
-loop-holds c = search rules
+loop-i-init : tie.Need-loop-i-init invariant-loop-i decreases-loop-i
+loop-i-init c = search rules
 
-element-copy-out-buf : tie.Need-element-copy-out-buf invariant-loop decreases-loop
-element-copy-out-buf c = search rules
+bounds-digits-i : tie.Need-bounds-digits-i invariant-loop-i decreases-loop-i
+bounds-digits-i c = search rules
 
-element-write-buf : tie.Need-element-write-buf invariant-loop decreases-loop
-element-write-buf c = search rules
+bounds-buf-to : tie.Need-bounds-buf-to invariant-loop-i decreases-loop-i
+bounds-buf-to c = search rules
 
-add-to : tie.Need-overflow-add-to invariant-loop decreases-loop
-add-to c = search rules
+overflow_add-to : tie.Need-overflow_add-to invariant-loop-i decreases-loop-i
+overflow_add-to c = search rules
 
-add-i : tie.Need-overflow-add-i invariant-loop decreases-loop
-add-i c = search rules
+overflow_add-i : tie.Need-overflow_add-i invariant-loop-i decreases-loop-i
+overflow_add-i c = search rules
 
-loop-less : tie.Need-loop-smaller invariant-loop decreases-loop
-loop-less c = search rules
+loop-i-smaller : tie.Need-loop-i-smaller invariant-loop-i decreases-loop-i
+loop-i-smaller c = search rules
 
-loop-again : tie.Need-loop-preserved invariant-loop decreases-loop
-loop-again c = search rules
+loop-i-preserved : tie.Need-loop-i-preserved invariant-loop-i decreases-loop-i
+loop-i-preserved c = search rules
 
-returns : tie.Need-returns invariant-loop decreases-loop
+returns : tie.Need-returns invariant-loop-i decreases-loop-i
 returns c = search rules
 
 pub copy_spec : {M : Type 1} → statement M
 copy_spec =
     tie.close
     (tie.spec
-    invariant-loop
-    decreases-loop
-    loop-holds
-    element-copy-out-buf
-    element-write-buf
-    add-to
-    add-i
-    loop-less
-    loop-again
+    invariant-loop-i
+    decreases-loop-i
+    loop-i-init
+    bounds-digits-i
+    bounds-buf-to
+    overflow_add-to
+    overflow_add-i
+    loop-i-smaller
+    loop-i-preserved
     returns)

@@ -5,51 +5,51 @@ use borrow.Author.Rules.{rules}
 use Rattle.script.proofs.text.put_words.Statement.{statement}
 use Rattle.script.proofs.text.put_words.Tie as tie
 
-abbrev invariant-loop : tie.invariant-loop
-invariant-loop buf₀ words count put₀ i₀ buf put i = (put.at ≤ 65536) × (i ≤ count)
+abbrev invariant-loop-i : tie.invariant-loop-i
+invariant-loop-i buf₀ words count put₀ i₀ buf put i = (put.at ≤ 65536) × (i ≤ count)
 
-abbrev decreases-loop : tie.decreases-loop
-decreases-loop buf₀ words count put₀ i₀ buf put i = count - i
+abbrev decreases-loop-i : tie.decreases-loop-i
+decreases-loop-i buf₀ words count put₀ i₀ buf put i = count - i
 
-loop-holds : tie.Need-loop-init invariant-loop decreases-loop
-loop-holds c = search rules
+loop-i-init : tie.Need-loop-i-init invariant-loop-i decreases-loop-i
+loop-i-init c = search rules
 
-put-byte-requires : tie.Need-put-byte-requires invariant-loop decreases-loop
-put-byte-requires c κs = search rules
+put_byte-put-requires : tie.Need-put_byte-put-requires invariant-loop-i decreases-loop-i
+put_byte-put-requires c κs = search rules
 
-mul-put-number : tie.Need-overflow-mul-put-number invariant-loop decreases-loop
-mul-put-number c = search rules
+offset_bounds-words-i : tie.Need-offset_bounds-words-i invariant-loop-i decreases-loop-i
+offset_bounds-words-i c = search rules
 
-shared-slice-read-put-number : tie.Need-shared-slice-read-put-number invariant-loop decreases-loop
-shared-slice-read-put-number c = search rules
+bounds-words-i : tie.Need-bounds-words-i invariant-loop-i decreases-loop-i
+bounds-words-i c = search rules
 
-put-number-requires : tie.Need-put-number-requires invariant-loop decreases-loop
-put-number-requires c κs = search rules
+put_number-put-requires : tie.Need-put_number-put-requires invariant-loop-i decreases-loop-i
+put_number-put-requires c κs = search rules
 
-add-i : tie.Need-overflow-add-i invariant-loop decreases-loop
-add-i c = search rules
+overflow_add-i : tie.Need-overflow_add-i invariant-loop-i decreases-loop-i
+overflow_add-i c = search rules
 
-loop-less : tie.Need-loop-smaller invariant-loop decreases-loop
-loop-less c = search rules
+loop-i-smaller : tie.Need-loop-i-smaller invariant-loop-i decreases-loop-i
+loop-i-smaller c = search rules
 
-loop-again : tie.Need-loop-preserved invariant-loop decreases-loop
-loop-again c = search rules
+loop-i-preserved : tie.Need-loop-i-preserved invariant-loop-i decreases-loop-i
+loop-i-preserved c = search rules
 
-returns : tie.Need-returns invariant-loop decreases-loop
+returns : tie.Need-returns invariant-loop-i decreases-loop-i
 returns c = search rules
 
-pub put-words-spec : {M : Type 1} → statement M
-put-words-spec =
+pub put_words_spec : {M : Type 1} → statement M
+put_words_spec =
     tie.close
     (tie.spec
-    invariant-loop
-    decreases-loop
-    loop-holds
-    put-byte-requires
-    mul-put-number
-    shared-slice-read-put-number
-    put-number-requires
-    add-i
-    loop-less
-    loop-again
+    invariant-loop-i
+    decreases-loop-i
+    loop-i-init
+    put_byte-put-requires
+    offset_bounds-words-i
+    bounds-words-i
+    put_number-put-requires
+    overflow_add-i
+    loop-i-smaller
+    loop-i-preserved
     returns)

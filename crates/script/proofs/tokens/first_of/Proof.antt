@@ -11,43 +11,43 @@ use borrow.Author.Rules.{rules}
 use Rattle.script.proofs.tokens.first_of.Statement.{statement}
 use Rattle.script.proofs.tokens.first_of.Tie as tie
 
-abbrev invariant-loop : tie.invariant-loop
-invariant-loop byte text from i₀ i = (from ≤ i) × (i ≤ length text) × (i + up_to byte (drop i text) ≡ from + up_to byte (drop from text))
+abbrev invariant-loop-i : tie.invariant-loop-i
+invariant-loop-i byte text from i₀ i = (from ≤ i) × (i ≤ length text) × (i + up_to byte (drop i text) ≡ from + up_to byte (drop from text))
 
-abbrev decreases-loop : tie.decreases-loop
-decreases-loop byte text from i₀ i = length text - i
+abbrev decreases-loop-i : tie.decreases-loop-i
+decreases-loop-i byte text from i₀ i = length text - i
 
-loop-holds : tie.Need-loop-init invariant-loop decreases-loop
-loop-holds c = search rules
+loop-i-init : tie.Need-loop-i-init invariant-loop-i decreases-loop-i
+loop-i-init c = search rules
 
-shared-slice-read-if1 : tie.Need-shared-slice-read-if1 invariant-loop decreases-loop
-shared-slice-read-if1 c = search rules
+bounds-text-i : tie.Need-bounds-text-i invariant-loop-i decreases-loop-i
+bounds-text-i c = search rules
 
-returns : tie.Need-returns invariant-loop decreases-loop
-returns c = (omega arith, omega arith, found _ _ _ _ c.before.before.before.loop.invariant.2 c.before.before.loop-test.true c.if1.true)
+returns-then-text-i : tie.Need-returns-then-text-i invariant-loop-i decreases-loop-i
+returns-then-text-i c = (omega arith, omega arith, found _ _ _ _ c.before.before.before.loop-i.invariant.2 c.before.before.loop-i-test.true c.if-text-i.true)
 
-add-i : tie.Need-overflow-add-i invariant-loop decreases-loop
-add-i c = search rules
+overflow_add-i : tie.Need-overflow_add-i invariant-loop-i decreases-loop-i
+overflow_add-i c = search rules
 
-loop-less : tie.Need-loop-smaller invariant-loop decreases-loop
-loop-less c = search rules
+loop-i-smaller : tie.Need-loop-i-smaller invariant-loop-i decreases-loop-i
+loop-i-smaller c = search rules
 
-loop-again : tie.Need-loop-preserved invariant-loop decreases-loop
-loop-again c = (omega arith, omega arith, rw add-one (passed _ _ _ _ c.before.before.before.loop.invariant.2 c.before.before.loop-test.true c.if1.false))
+loop-i-preserved : tie.Need-loop-i-preserved invariant-loop-i decreases-loop-i
+loop-i-preserved c = (omega arith, omega arith, rw add-one (passed _ _ _ _ c.before.before.before.loop-i.invariant.2 c.before.before.loop-i-test.true c.if-text-i.false))
 
-returns-2 : tie.Need-returns-2 invariant-loop decreases-loop
-returns-2 c = (omega arith, omega arith, unfound _ _ _ _ c.before.loop.invariant.2 c.loop-test.false)
+returns : tie.Need-returns invariant-loop-i decreases-loop-i
+returns c = (omega arith, omega arith, unfound _ _ _ _ c.before.loop-i.invariant.2 c.loop-i-test.false)
 
-pub first-of-spec : {M : Type 1} → statement M
-first-of-spec =
+pub first_of_spec : {M : Type 1} → statement M
+first_of_spec =
     tie.close
     (tie.spec
-    invariant-loop
-    decreases-loop
-    loop-holds
-    shared-slice-read-if1
-    returns
-    add-i
-    loop-less
-    loop-again
-    returns-2)
+    invariant-loop-i
+    decreases-loop-i
+    loop-i-init
+    bounds-text-i
+    returns-then-text-i
+    overflow_add-i
+    loop-i-smaller
+    loop-i-preserved
+    returns)

@@ -11,52 +11,52 @@ use borrow.Author.Rules.{rules}
 use Rattle.script.proofs.tokens.same.Statement.{statement}
 use Rattle.script.proofs.tokens.same.Tie as tie
 
-abbrev invariant-loop : tie.invariant-loop
-invariant-loop a b i₀ i = (i ≤ length a) × (length a ≡ length b) × (same_text (drop i a) (drop i b) ≡ same_text a b)
+abbrev invariant-loop-i : tie.invariant-loop-i
+invariant-loop-i a b i₀ i = (i ≤ length a) × (length a ≡ length b) × (same_text (drop i a) (drop i b) ≡ same_text a b)
 
-abbrev decreases-loop : tie.decreases-loop
-decreases-loop a b i₀ i = length a - i
+abbrev decreases-loop-i : tie.decreases-loop-i
+decreases-loop-i a b i₀ i = length a - i
 
-returns : tie.Need-returns invariant-loop decreases-loop
-returns c = apart _ _ c.if1.true
+returns-then-a-b : tie.Need-returns-then-a-b invariant-loop-i decreases-loop-i
+returns-then-a-b c = apart _ _ c.if-a-b.true
 
-loop-holds : tie.Need-loop-init invariant-loop decreases-loop
-loop-holds c = (omega arith, c.if1.false, refl)
+loop-i-init : tie.Need-loop-i-init invariant-loop-i decreases-loop-i
+loop-i-init c = (omega arith, c.if-a-b.false, refl)
 
-shared-slice-read-if2 : tie.Need-shared-slice-read-if2 invariant-loop decreases-loop
-shared-slice-read-if2 c = search rules
+bounds-a-i : tie.Need-bounds-a-i invariant-loop-i decreases-loop-i
+bounds-a-i c = search rules
 
-shared-slice-read-if2-2 : tie.Need-shared-slice-read-if2-2 invariant-loop decreases-loop
-shared-slice-read-if2-2 c = search rules
+bounds-b-i : tie.Need-bounds-b-i invariant-loop-i decreases-loop-i
+bounds-b-i c = search rules
 
-returns-2 : tie.Need-returns-2 invariant-loop decreases-loop
-returns-2 c = same_off _ _ _ _ c.before.before.before.before.loop.invariant.2 c.before.before.before.loop-test.true (omega arith) c.if2.true
+returns-then-a-i : tie.Need-returns-then-a-i invariant-loop-i decreases-loop-i
+returns-then-a-i c = same_off _ _ _ _ c.before.before.before.before.loop-i.invariant.2 c.before.before.before.loop-i-test.true (omega arith) c.if-a-i.true
 
-add-i : tie.Need-overflow-add-i invariant-loop decreases-loop
-add-i c = search rules
+overflow_add-i : tie.Need-overflow_add-i invariant-loop-i decreases-loop-i
+overflow_add-i c = search rules
 
-loop-less : tie.Need-loop-smaller invariant-loop decreases-loop
-loop-less c = search rules
+loop-i-smaller : tie.Need-loop-i-smaller invariant-loop-i decreases-loop-i
+loop-i-smaller c = search rules
 
-loop-again : tie.Need-loop-preserved invariant-loop decreases-loop
-loop-again c =
-    (omega arith, c.before.before.before.before.loop.invariant.1, rw add-one (same_on _ _ _ _ c.before.before.before.before.loop.invariant.2 c.before.before.before.loop-test.true (omega arith) c.if2.false))
+loop-i-preserved : tie.Need-loop-i-preserved invariant-loop-i decreases-loop-i
+loop-i-preserved c =
+    (omega arith, c.before.before.before.before.loop-i.invariant.1, rw add-one (same_on _ _ _ _ c.before.before.before.before.loop-i.invariant.2 c.before.before.before.loop-i-test.true (omega arith) c.if-a-i.false))
 
-returns-3 : tie.Need-returns-3 invariant-loop decreases-loop
-returns-3 c = same_end _ _ _ _ c.before.loop.invariant.2 c.loop-test.false (omega arith)
+returns : tie.Need-returns invariant-loop-i decreases-loop-i
+returns c = same_end _ _ _ _ c.before.loop-i.invariant.2 c.loop-i-test.false (omega arith)
 
 pub same_spec : {M : Type 1} → statement M
 same_spec =
     tie.close
     (tie.spec
-    invariant-loop
-    decreases-loop
-    returns
-    loop-holds
-    shared-slice-read-if2
-    shared-slice-read-if2-2
-    returns-2
-    add-i
-    loop-less
-    loop-again
-    returns-3)
+    invariant-loop-i
+    decreases-loop-i
+    returns-then-a-b
+    loop-i-init
+    bounds-a-i
+    bounds-b-i
+    returns-then-a-i
+    overflow_add-i
+    loop-i-smaller
+    loop-i-preserved
+    returns)
