@@ -1,6 +1,6 @@
 -- `script::text::changed`: The count only falls, from the list's length.
 -- Assumes nothing.
-use Prim.Native.Nat.{◌-◌, ◌≤◌}
+use Prim.Native.Nat.{◌≤◌}
 use lib.ListN.{length}
 use borrow.Author.Rules.{rules}
 use Rattle.script.proofs.text.changed.Statement.{statement}
