@@ -1,4 +1,4 @@
-// The text of call scripts: lines of standard input, a line taken apart, and the text of answers.
+// The text of call scripts: lines of an input, a line taken apart, and the text of answers.
 #![tactic(auto)]
 
 pub mod calls;

@@ -1,4 +1,4 @@
-// Lines of standard input, in a buffer of 65,536 bytes that the caller owns.
+// Lines of an input, in a buffer of 65,536 bytes that the caller owns, as the input is.
 //
 // A last line without a newline is a line. A read that fails counts as the end of the input. A line that
 // does not fit is made shorter where that does not change its meaning: a comment is cut to its first

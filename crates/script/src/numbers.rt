@@ -29,6 +29,7 @@ pub fn value_of(token: &[u8]) -> Number
 }
 
 // A number with one more digit behind it.
+#[tactic(auto, using(crate::proofs::Digits::high))]
 fn with_digit(value: u64, byte: u8) -> Number
     ensures { result ≡ valued value (byte ∷ []) }
 {

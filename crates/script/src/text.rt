@@ -1,4 +1,4 @@
-// The text of answers, in a buffer of 65,536 bytes that the caller owns, written to standard output.
+// The text of answers, in a buffer of 65,536 bytes that the caller owns, written to an output that is the caller's too.
 ghost use Rattle.std.specs.Prelude.{◌≡◌, ◌+◌, ◌-◌, ◌≤◌, ◌<◌, length};
 
 use crate::numbers;
