@@ -35,7 +35,7 @@ pub const DUMP: u8 = 34;
 pub const ANY: usize = 255;
 
 // A name, with spaces behind it; how many numbers the call takes; how many words an item of its list has, 0 where it takes none.
-#[derive(Drop)]
+#[derive(Clone, Copy)]
 struct Row([u8; 20], usize, u8);
 
 // How many codes there are.

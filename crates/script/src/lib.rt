@@ -1,4 +1,6 @@
-// The text of call scripts: lines of standard input, a line taken apart, and the text of answers.
+// The text of call scripts: lines of an input, a line taken apart, and the text of answers.
+#![tactic(auto)]
+
 pub mod calls;
 mod lines;
 mod numbers;

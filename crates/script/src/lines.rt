@@ -1,4 +1,4 @@
-// Lines of standard input, in a buffer of 65,536 bytes that the caller owns.
+// Lines of an input, in a buffer of 65,536 bytes that the caller owns, as the input is.
 //
 // A last line without a newline is a line. A read that fails counts as the end of the input. A line that
 // does not fit is made shorter where that does not change its meaning: a comment is cut to its first
@@ -8,6 +8,7 @@ ghost use Rattle.script.specs.Lines.{Within};
 ghost use Rattle.std.specs.Prelude.{◌+◌, ◌≤◌, ◌<◌, ◌≡◌, length};
 
 use crate::tokens::first_of;
+use std::io::Read;
 
 // What `next_line` found: a line, the end of the input, or a line that does not fit.
 pub const AT_LINE: u8 = 0;
@@ -18,7 +19,7 @@ pub const TOO_LONG: u8 = 2;
 
 // Where things lie in the buffer: the line that was found, from start to end, and what was read and not
 // yet handed out, from next to filled.
-#[derive(Drop)]
+#[derive(Clone, Copy)]
 pub struct Lines {
     pub found: u8,
     pub start: usize,
@@ -45,7 +46,7 @@ pub fn begin() -> Lines
 }
 
 // Finds the next line, and reads on where the buffer does not hold the whole of it.
-pub fn next_line(buf: &mut [u8; 65536], lines: Lines) -> Lines
+pub fn next_line<R: Read>(input: &mut R, buf: &mut [u8; 65536], lines: Lines) -> Lines
     requires { Within lines }
     ensures { Within result }
 {
@@ -61,7 +62,7 @@ pub fn next_line(buf: &mut [u8; 65536], lines: Lines) -> Lines
         if now_at.ended {
             return now_at.last();
         }
-        now_at = more(buf, now_at);
+        now_at = more(input, buf, now_at);
         turns -= 1;
     }
     now_at.last()
@@ -117,7 +118,7 @@ fn newline(buf: &[u8], from: usize, to: usize) -> usize
 }
 
 // Brings what is not handed out to the front, makes room, and reads once.
-fn more(buf: &mut [u8], lines: Lines) -> Lines
+fn more<R: Read>(input: &mut R, buf: &mut [u8], lines: Lines) -> Lines
     requires { Within lines × (65536 ≡ length buf.old) }
     ensures { Within result }
 {
@@ -133,7 +134,7 @@ fn more(buf: &mut [u8], lines: Lines) -> Lines
             long: true,
         };
     }
-    let got = read_from(buf, kept);
+    let got = read_from(input, buf, kept);
     Lines {
         found: AT_LINE,
         start: 0,
@@ -160,13 +161,14 @@ fn room(buf: &mut [u8], from: usize, to: usize) -> usize
 }
 
 // One read into buf from `at` on.
-fn read_from(buf: &mut [u8], at: usize) -> usize
+fn read_from<R: Read>(input: &mut R, buf: &mut [u8], at: usize) -> usize
     requires { at ≤ length buf.old }
     ensures { at + result ≤ length buf.old }
 {
-    let part = &mut buf[at..];
-    let got = libc::read(libc::STDIN_FILENO, part);
-    io::count(got, part)
+    match input.read(&mut buf[at..]) {
+        Ok(got) => got,
+        Err(_) => 0,
+    }
 }
 
 fn shift(buf: &mut [u8], from: usize, to: usize)

@@ -3,7 +3,7 @@ ghost use Rattle.std.specs.Prelude.{◌≡◌, ◌+◌, ◌<◌, [], ◌∷◌, 
 ghost use Rattle.script.specs.Decimal.{number_of, valued, spelled};
 
 // What a token says: a number, or nothing that is one.
-#[derive(Drop)]
+#[derive(Clone, Copy)]
 pub enum Number {
     Is(u64),
     Not,
@@ -29,6 +29,7 @@ pub fn value_of(token: &[u8]) -> Number
 }
 
 // A number with one more digit behind it.
+#[tactic(auto, using(crate::proofs::Digits::high))]
 fn with_digit(value: u64, byte: u8) -> Number
     ensures { result ≡ valued value (byte ∷ []) }
 {

@@ -15,7 +15,7 @@ use crate::numbers::Number;
 use crate::{calls, numbers, tokens};
 
 // A line: its code (SKIP, BAD, or a call's), how many numbers it has, and how many words it lends.
-#[derive(Drop)]
+#[derive(Clone, Copy)]
 pub struct Parsed {
     pub code: u8,
     pub count: usize,
@@ -23,7 +23,7 @@ pub struct Parsed {
 }
 
 // What stands behind a line's name.
-#[derive(Drop)]
+#[derive(Clone, Copy)]
 struct Tail {
     good: bool,
     lends: bool,
