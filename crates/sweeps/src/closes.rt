@@ -30,18 +30,17 @@ fn decision(returned: bool) -> u64
 }
 
 // Transaction and code of each whose flag is down, to the front of the lent list.
-fn list_closed(roster: Roster, codes: [u64; 48], stay: [bool; 48], lent: &mut [u64])
-    requires { Sound roster × (length (listed_by (take roster.len stay) (keys_of roster) (take roster.len codes)) ≤ length lent.old) }
-    ensures { lent.new ≡ sets lent.old 0 (listed_by (take roster.len stay) (keys_of roster) (take roster.len codes)) }
+fn list_closed(keys: [u64; 48], codes: [u64; 48], stay: [bool; 48], n: usize, lent: &mut [u64])
+    requires { (n ≤ 48) × (length (listed_by (take n stay) (take n keys) (take n codes)) ≤ length lent.old) }
+    ensures { lent.new ≡ sets lent.old 0 (listed_by (take n stay) (take n keys) (take n codes)) }
 {
-    let n = roster.len;
     let mut at: usize = 0;
     let mut i: usize = 0;
     while i < n {
         if stay[i] {
             i += 1;
         } else {
-            let tx = transaction_at(&roster.keys, i);
+            let tx = transaction_at(&keys, i);
             tx.put(lent, at);
             lent[at + 1] = codes[i];
             at += 2;
@@ -74,7 +73,8 @@ fn apply_closing(c: Closing, roster: Roster, issuers: Issuers, lent: &mut [u64])
     }
     let stay = c.stay;
     let codes = c.codes;
-    list_closed(roster, codes, stay, lent);
+    let keys = roster.keys;
+    list_closed(keys, codes, stay, roster.len, lent);
     Closed {
         refused: 0,
         answer: c.count,

@@ -66,7 +66,7 @@ there c =
 room : (c : tie.In-Nothing invariant-loop-i decreases-loop-i) → c.loop-i.ledger.roster.len < 48
 room c =
     let o = c.loop-i in
-    group_room c.args.ledger c.args.words.now (stands c.before.before.before.before.before.before).passed o.ledger o.at o.rebuilt o.i (stands c.before.before.before.before.before.before).so (stands c.before.before.before.before.before.before).group-e c.group-e.result c.group-e.ensures
+    group_room c.args.ledger c.args.words.now (stands c.before.before.before.before.before.before).passed o.ledger o.at o.rebuilt o.i (stands c.before.before.before.before.before.before).so (stands c.before.before.before.before.before.before).group c.group-e.result c.group-e.ensures
     (sym c.find.ensures ∙ c.in-Nothing.is)
 
 -- how many groups there are at most
@@ -93,7 +93,7 @@ loop-i-init c =
     (c.reaches_at-at.ensures ∙ ap (λ m. 2 + m + 5 * m) (taken c.refusal-refused.result _ _ c.items_of-n.ensures e)))
 
 group-e-requires : tie.Need-group-e-requires invariant-loop-i decreases-loop-i
-group-e-requires c κs = ((stands c).passed.formed, (stands c).group-e, (stands c).so.reach)
+group-e-requires c κs = ((stands c).passed.formed, (stands c).group, (stands c).so.reach)
 
 reach_at-at-requires : tie.Need-reach_at-at-requires invariant-loop-i decreases-loop-i
 reach_at-at-requires c κs = omega (arith, stands c.before)
@@ -139,7 +139,7 @@ loop-i-preserved-in-At c =
     let o = c.loop-i in
     rw c.reach_at-at.ensures
     (goes_on c.refusal-refused.result c.args.ledger _ _ _ (stands c.before.before.before.before.before.before.before.before.before).none
-    (group_owed c.args.ledger c.args.words.now (stands c.before.before.before.before.before.before.before.before.before).passed o.ledger o.at o.rebuilt o.i (stands c.before.before.before.before.before.before.before.before.before).so (stands c.before.before.before.before.before.before.before.before.before).group-e c.group-e.result c.group-e.ensures
+    (group_owed c.args.ledger c.args.words.now (stands c.before.before.before.before.before.before.before.before.before).passed o.ledger o.at o.rebuilt o.i (stands c.before.before.before.before.before.before.before.before.before).so (stands c.before.before.before.before.before.before.before.before.before).group c.group-e.result c.group-e.ensures
     c.in-At.k _ c.with_departed_by.result (sym c.find.ensures ∙ c.in-At.is) (rw c.record_shard-shard.ensures at c.with_departed_by.ensures)))
 
 enum_told-1 : tie.Need-enum_told-1 invariant-loop-i decreases-loop-i
@@ -176,7 +176,7 @@ loop-i-preserved c =
     let words = all_words_lem c.args.words.now (λ j. omega (arith, c.shared_slice_known-1.given j)) in
     rw c.reach_at-at.ensures
     (goes_on c.refusal-refused.result c.args.ledger _ _ _ (stands c.before.before.before.before.before.before.before.before.before).none
-    (group_new c.args.ledger c.args.words.now (stands c.before.before.before.before.before.before.before.before.before).passed o.ledger o.at o.rebuilt o.i (stands c.before.before.before.before.before.before.before.before.before).so (stands c.before.before.before.before.before.before.before.before.before).group-e c.group-e.result c.group-e.ensures
+    (group_new c.args.ledger c.args.words.now (stands c.before.before.before.before.before.before.before.before.before).passed o.ledger o.at o.rebuilt o.i (stands c.before.before.before.before.before.before.before.before.before).so (stands c.before.before.before.before.before.before.before.before.before).group c.group-e.result c.group-e.ensures
     words c.rank.result c.insert_at-ledger.result (sym c.find.ensures ∙ c.in-Nothing.is) c.rank.ensures c.insert_at-ledger.ensures))
 
 capped-requires : tie.Need-capped-requires invariant-loop-i decreases-loop-i

@@ -94,13 +94,13 @@ turn c = c.before.before.before.before.before.before.before.before.before.before
 overflow_add-p-in-Reported : tie.Need-overflow_add-p-in-Reported invariant-loop-i decreases-loop-i
 overflow_add-p-in-Reported c =
     let b = (turn c) in
-    let few : b.loop-i.p.reports + 1 < 2 ^ 64 = omega (arith, within (turn c), b.loop-i.inv.few, b.requires.roster.room) in
+    let few : b.loop-i.p.reports + 1 < 2 ^ 64 = omega (arith, within (turn c), b.loop-i.invariant.few, b.requires.roster.room) in
     record { fits = few }
 
 overflow_add-p-in-Reported-2 : tie.Need-overflow_add-p-in-Reported-2 invariant-loop-i decreases-loop-i
 overflow_add-p-in-Reported-2 c =
     let b = (turn c) in
-    let few : b.loop-i.p.fallen + 1 < 2 ^ 64 = omega (arith, within (turn c), b.loop-i.inv.less, b.requires.roster.room) in
+    let few : b.loop-i.p.fallen + 1 < 2 ^ 64 = omega (arith, within (turn c), b.loop-i.invariant.less, b.requires.roster.room) in
     record { fits = few }
 
 overflow_add-i : tie.Need-overflow_add-i invariant-loop-i decreases-loop-i
@@ -116,14 +116,14 @@ loop-i-preserved c =
     let i = c.loop-i.i in
     ⊎_elim
     (λ w.
-    let size : length w.8.result ≡ 32 = search rules in
-    rw w.11 (pass_stands at c.requires now i (within c.before.before.before.before.before.before.before.before) _ c.of-v.result c.of-v.ensures c.judge-verdict.result c.judge-verdict.ensures c.loop-i.p c.loop-i.invariant w.1.given.1 w.8.result w.10.result size w.10.ensures w.8.ensures))
+    let size : length w.with_needs-p.result ≡ 32 = search rules in
+    rw w.p-is (pass_stands at c.requires now i (within c.before.before.before.before.before.before.before.before) _ c.of-v.result c.of-v.ensures c.judge-verdict.result c.judge-verdict.ensures c.loop-i.p c.loop-i.invariant w.in-Stands.is w.with_needs-p.result w.some_down.result size w.some_down.ensures w.with_needs-p.ensures))
     (⊎_elim
-    (λ w. rw w.3 (pass_idle at c.requires now i (within c.before.before.before.before.before.before.before.before) _ c.of-v.result c.of-v.ensures c.judge-verdict.result c.judge-verdict.ensures c.loop-i.p c.loop-i.invariant w.1.given.1 w.2.left))
+    (λ w. rw w.p-is (pass_idle at c.requires now i (within c.before.before.before.before.before.before.before.before) _ c.of-v.result c.of-v.ensures c.judge-verdict.result c.judge-verdict.ensures c.loop-i.p c.loop-i.invariant w.in-Stands.is w.if-p.false))
     (⊎_elim
-    (λ w. rw w.2 (pass_falls at c.requires now i (within c.before.before.before.before.before.before.before.before) _ c.of-v.result c.of-v.ensures c.judge-verdict.result c.judge-verdict.ensures c.loop-i.p c.loop-i.invariant w.1.given.1))
-    (λ w. rw w.5 (pass_reported at c.requires now i (within c.before.before.before.before.before.before.before.before) _ c.of-v.result c.of-v.ensures c.judge-verdict.result c.judge-verdict.ensures c.loop-i.p c.loop-i.invariant w.1.given.0.0 w.4.last.0 w.1.given.1 w.4.ensures))))
-    c.match-verdict.branch
+    (λ w. rw w.p-is (pass_falls at c.requires now i (within c.before.before.before.before.before.before.before.before) _ c.of-v.result c.of-v.ensures c.judge-verdict.result c.judge-verdict.ensures c.loop-i.p c.loop-i.invariant w.in-Falls.is))
+    (λ w. rw w.p-is (pass_reported at c.requires now i (within c.before.before.before.before.before.before.before.before) _ c.of-v.result c.of-v.ensures c.judge-verdict.result c.judge-verdict.ensures c.loop-i.p c.loop-i.invariant w.in-Reported.covered w.put_report.new.words w.in-Reported.is w.put_report.ensures))))
+    c.match-verdict.branch-raw
 
 judged : (k : tie.After-loop-i invariant-loop-i decreases-loop-i) → let s = k in Judges s.args.ledger s.args.time.0 k.loop-i.p
 judged k =

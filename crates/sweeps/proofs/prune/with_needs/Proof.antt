@@ -52,7 +52,7 @@ loop-j-preserved-then-out-j c =
       omega arith,
       l.invariant.1,
       λ ds w.
-          mark_kept a.local.0 (plain_entry a.e) ds a.n l.out l.j (omega arith) (count c ds w) nobody (omega arith) c.if-out-j.true
+          mark_kept a.local.0 (plain_entry a.e) ds a.n l.out l.j (omega arith) (count c.before.before.before ds w) nobody (omega arith) c.if-out-j.true
           ∙ l.invariant.2 ds w,
     )
 
@@ -96,12 +96,12 @@ loop-j-preserved c =
       length-set l.out l.j c.needs.result ∙ l.invariant.1,
       λ ds w.
           let d = get_or ds l.j nobody in
-          let good = every_at GoodDeparture nobody l.j ds (omega (arith, count c ds w)) w.good in
+          let good = every_at GoodDeparture nobody l.j ds (omega (arith, count c.before.before.before.before.before.before.before.before.before.before ds w)) w.good in
           let here = c.needs.ensures d good.shard
           (front_at shard_of a.shards.now a.n ds (omega arith) w.shards l.j 0 nobody (omega arith))
           (front_at zeros_of a.zeros.now a.n ds (omega arith) w.zeros l.j 0 nobody (omega arith))
           (front_at cut_of a.cuts.now a.n ds (omega arith) w.cuts l.j 0 nobody (omega arith)) in
-          mark_new a.local.0 (plain_entry a.e) ds a.n l.out l.j (omega arith) (count c ds w) nobody c.needs.result (omega arith) c.if-out-j.false here
+          mark_new a.local.0 (plain_entry a.e) ds a.n l.out l.j (omega arith) (count c.before.before.before.before.before.before.before.before.before.before ds w) nobody c.needs.result (omega arith) c.if-out-j.false here
           ∙ l.invariant.2 ds w,
     )
 
@@ -109,7 +109,7 @@ returns : tie.Need-returns invariant-loop-j decreases-loop-j
 returns c ds w =
     let l = c.loop-j in
     let a = c.args in
-    sym (mark_end a.local.0 (plain_entry a.e) ds a.n l.out l.j (omega arith) (count c ds w) (omega arith) (omega arith)) ∙ l.invariant.2 ds w
+    sym (mark_end a.local.0 (plain_entry a.e) ds a.n l.out l.j (omega arith) (count c.before.before ds w) (omega arith) (omega arith)) ∙ l.invariant.2 ds w
 
 pub with_needs_spec : {M : Type 1} → statement M
 with_needs_spec =
