@@ -12,7 +12,9 @@ use types::Shard;
 
 // Line by line to the end of the script, or to a line that is malformed or names a call that is not there. `times` is 0 unless
 // a `repeat` waits for its call. No script has 2^64 lines.
-fn main() {
+fn main(rt: HostRuntime) {
+    let mut stdin = rt.stdin();
+    let mut stdout = rt.stdout();
     let mut input = [0u8; 65536];
     let mut output = [0u8; 65536];
     let mut numbers = [0u64; 2048];
@@ -24,7 +26,7 @@ fn main() {
     let mut times: u64 = 0;
     let mut at: u64 = 0;
     while at < 0xffff_ffff_ffff_ffff {
-        lines = script::next_line(&mut input, lines);
+        lines = script::next_line(&mut stdin, &mut input, lines);
         if lines.found == script::AT_END {
             break;
         }
@@ -36,7 +38,7 @@ fn main() {
             continue;
         }
         if code < NEW {
-            replies::stop(&mut output, out, at);
+            replies::stop(&mut stdout, &mut output, out, at);
             return;
         }
         let mut reply = [0u64; 4];
@@ -47,12 +49,12 @@ fn main() {
         } else if code < DUMP {
             reading::ask(ledger, line, &numbers, &mut lent, times, &mut reply);
         }
-        out = replies::put_answers(&mut output, out, code, &reply);
+        out = replies::put_answers(&mut stdout, &mut output, out, code, &reply);
         if code == DUMP {
-            out = dump::put_ledger(&mut output, out, ledger);
+            out = dump::put_ledger(&mut stdout, &mut output, out, ledger);
         }
-        out = replies::put_list(&mut output, out, line, &lent);
+        out = replies::put_list(&mut stdout, &mut output, out, line, &lent);
         times = 0;
     }
-    script::flush(&output, out);
+    script::flush(&mut stdout, &output, out);
 }

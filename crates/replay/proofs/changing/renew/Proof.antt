@@ -10,81 +10,81 @@ use Rattle.replay.proofs.Replied.{done_by_lem}
 use Rattle.replay.proofs.changing.renew.Statement.{statement}
 use Rattle.replay.proofs.changing.renew.Tie as tie
 
-abbrev invariant-loop : tie.invariant-loop
-invariant-loop numbers times reply local validity core-span leg-span done₀ left₀ done left = Meets (making local.0 validity core-span leg-span) [] [] done
+abbrev invariant-loop-left : tie.invariant-loop-left
+invariant-loop-left numbers times reply local validity core-span leg-span done₀ left₀ done left = Meets (making local.0 validity core-span leg-span) [] [] done
 
-abbrev decreases-loop : tie.decreases-loop
-decreases-loop numbers times reply local validity core-span leg-span done₀ left₀ done left = left
+abbrev decreases-loop-left : tie.decreases-loop-left
+decreases-loop-left numbers times reply local validity core-span leg-span done₀ left₀ done left = left
 
-element-copy-out-validity : tie.Need-element-copy-out-validity invariant-loop decreases-loop
-element-copy-out-validity c = search rules
+bounds-numbers-0 : tie.Need-bounds-numbers-0 invariant-loop-left decreases-loop-left
+bounds-numbers-0 c = search rules
 
-element-copy-out-validity-2 : tie.Need-element-copy-out-validity-2 invariant-loop decreases-loop
-element-copy-out-validity-2 c = search rules
+bounds-numbers-1 : tie.Need-bounds-numbers-1 invariant-loop-left decreases-loop-left
+bounds-numbers-1 c = search rules
 
-element-copy-out-core-span : tie.Need-element-copy-out-core-span invariant-loop decreases-loop
-element-copy-out-core-span c = search rules
+bounds-numbers-2 : tie.Need-bounds-numbers-2 invariant-loop-left decreases-loop-left
+bounds-numbers-2 c = search rules
 
-element-copy-out-leg-span : tie.Need-element-copy-out-leg-span invariant-loop decreases-loop
-element-copy-out-leg-span c = search rules
+bounds-numbers-3 : tie.Need-bounds-numbers-3 invariant-loop-left decreases-loop-left
+bounds-numbers-3 c = search rules
 
-new-requires : tie.Need-new-requires invariant-loop decreases-loop
-new-requires c κs = search rules
+new-done-requires : tie.Need-new-done-requires invariant-loop-left decreases-loop-left
+new-done-requires c κs = search rules
 
-turns-of-requires : tie.Need-turns-of-requires invariant-loop decreases-loop
-turns-of-requires c κs = search rules
+turns_of-left-requires : tie.Need-turns_of-left-requires invariant-loop-left decreases-loop-left
+turns_of-left-requires c κs = search rules
 
-loop-holds : tie.Need-loop-init invariant-loop decreases-loop
-loop-holds c = c.before.new.ensures
+loop-left-init : tie.Need-loop-left-init invariant-loop-left decreases-loop-left
+loop-left-init c = c.new-done.ensures
 
-sub-left : tie.Need-overflow-sub-left invariant-loop decreases-loop
-sub-left c = search rules
+overflow_sub-left : tie.Need-overflow_sub-left invariant-loop-left decreases-loop-left
+overflow_sub-left c = search rules
 
-new-requires-2 : tie.Need-new-requires-2 invariant-loop decreases-loop
-new-requires-2 c κs = search rules
+new-done-requires-in-loop-left : tie.Need-new-done-requires-in-loop-left invariant-loop-left decreases-loop-left
+new-done-requires-in-loop-left c κs = search rules
 
-loop-less : tie.Need-loop-smaller invariant-loop decreases-loop
-loop-less c = search rules
+loop-left-smaller : tie.Need-loop-left-smaller invariant-loop-left decreases-loop-left
+loop-left-smaller c = search rules
 
-loop-again : tie.Need-loop-preserved invariant-loop decreases-loop
-loop-again c = c.new2.ensures
+loop-left-preserved : tie.Need-loop-left-preserved invariant-loop-left decreases-loop-left
+loop-left-preserved c = c.new-done-in-loop-left.ensures
 
-element-copy-out-put-down : tie.Need-element-copy-out-put-down invariant-loop decreases-loop
-element-copy-out-put-down c = search rules
+bounds-done-0 : tie.Need-bounds-done-0 invariant-loop-left decreases-loop-left
+bounds-done-0 c = search rules
 
-element-copy-out-put-down-2 : tie.Need-element-copy-out-put-down-2 invariant-loop decreases-loop
-element-copy-out-put-down-2 c = search rules
+bounds-done-1 : tie.Need-bounds-done-1 invariant-loop-left decreases-loop-left
+bounds-done-1 c = search rules
 
-element-copy-out-put-down-3 : tie.Need-element-copy-out-put-down-3 invariant-loop decreases-loop
-element-copy-out-put-down-3 c = search rules
+bounds-done-2 : tie.Need-bounds-done-2 invariant-loop-left decreases-loop-left
+bounds-done-2 c = search rules
 
-put-down-requires : tie.Need-put-down-requires invariant-loop decreases-loop
-put-down-requires c κs = search rules
+put_down-requires : tie.Need-put_down-requires invariant-loop-left decreases-loop-left
+put_down-requires c κs = search rules
 
-returns : tie.Need-returns invariant-loop decreases-loop
+returns : tie.Need-returns invariant-loop-left decreases-loop-left
 returns c =
-    let l = c.before.before.before.before.before.before.before.loop in
-    rw (c.before.put-down.ensures, done_by_lem l.done (ap length l.invariant.answers)) l.invariant
+    let l = c.loop-left in
+    rw (c.put_down.ensures, done_by_lem l.done (ap length l.invariant.answers)) l.invariant
 
-pub renew-spec : {M : Type 1} → statement M
-renew-spec =
+pub renew_spec : {M : Type 1} → statement M
+renew_spec =
     tie.close
     (tie.spec
-    invariant-loop
-    decreases-loop
-    element-copy-out-validity
-    element-copy-out-validity-2
-    element-copy-out-core-span
-    element-copy-out-leg-span
-    new-requires
-    turns-of-requires
-    loop-holds
-    sub-left
-    new-requires-2
-    loop-less
-    loop-again
-    element-copy-out-put-down
-    element-copy-out-put-down-2
-    element-copy-out-put-down-3
-    put-down-requires
+    invariant-loop-left
+    decreases-loop-left
+    bounds-numbers-0
+    bounds-numbers-1
+    bounds-numbers-2
+    bounds-numbers-3
+    new-done-requires
+    turns_of-left-requires
+    loop-left-init
+    overflow_sub-left
+    new-done-requires-in-loop-left
+    loop-left-smaller
+    loop-left-preserved
+    bounds-done-0
+    bounds-done-1
+    bounds-done-2
+    put_down-requires
     returns)

@@ -14,53 +14,52 @@ use Rattle.replay.proofs.entries.total.Tie as tie
 few-at : (n i : ℕ) (sizes : List ℕ) → n ≤ length sizes → Every (λ s. s ≤ 4) (take n sizes) → i < n → get_or sizes i 0 ≤ 4
 few-at n i sizes h e k = rw (get_or-take n sizes i 0 k) at (every_at (λ s. s ≤ 4) 0 i (take n sizes) (omega (arith, length-take-le n sizes h)) e)
 
-abbrev invariant-loop : tie.invariant-loop
-invariant-loop n sizes end sum₀ i₀ sum i = (i ≤ end) × (sum ≤ 4 * i)
+abbrev invariant-loop-i : tie.invariant-loop-i
+invariant-loop-i n sizes end sum₀ i₀ sum i = (i ≤ end) × (sum ≤ 4 * i)
 
-abbrev decreases-loop : tie.decreases-loop
-decreases-loop n sizes end sum₀ i₀ sum i = end - i
+abbrev decreases-loop-i : tie.decreases-loop-i
+decreases-loop-i n sizes end sum₀ i₀ sum i = end - i
 
 -- what is added in a turn
-small : (c : tie.In-loop invariant-loop decreases-loop) → get_or c.before.before.args.t1 c.before.loop.i 0 ≤ 4
+small : (c : tie.In-loop-i invariant-loop-i decreases-loop-i) → get_or c.args.sizes c.loop-i.i 0 ≤ 4
 small c =
-    let s = c.before.before in
-    few-at s.args.n c.before.loop.i s.args.t1 (search rules) s.requires.1 (omega arith)
+    few-at c.args.n c.loop-i.i c.args.sizes (search rules) c.requires.1 (omega arith)
 
-loop-holds : tie.Need-loop-init invariant-loop decreases-loop
-loop-holds c = search rules
+loop-i-init : tie.Need-loop-i-init invariant-loop-i decreases-loop-i
+loop-i-init c = search rules
 
-array-read-sum : tie.Need-array-read-sum invariant-loop decreases-loop
-array-read-sum c = search rules
+bounds-sizes-i : tie.Need-bounds-sizes-i invariant-loop-i decreases-loop-i
+bounds-sizes-i c = search rules
 
-cast-sum : tie.Need-overflow-cast-sum invariant-loop decreases-loop
-cast-sum c = omega (arith, small c)
+overflow_cast-sum : tie.Need-overflow_cast-sum invariant-loop-i decreases-loop-i
+overflow_cast-sum c = omega (arith, small c)
 
-add-sum : tie.Need-overflow-add-sum invariant-loop decreases-loop
-add-sum c = omega (arith, small c)
+overflow_add-sum : tie.Need-overflow_add-sum invariant-loop-i decreases-loop-i
+overflow_add-sum c = omega (arith, small c)
 
-add-i : tie.Need-overflow-add-i invariant-loop decreases-loop
-add-i c = search rules
+overflow_add-i : tie.Need-overflow_add-i invariant-loop-i decreases-loop-i
+overflow_add-i c = search rules
 
-loop-less : tie.Need-loop-smaller invariant-loop decreases-loop
-loop-less c = search rules
+loop-i-smaller : tie.Need-loop-i-smaller invariant-loop-i decreases-loop-i
+loop-i-smaller c = search rules
 
-loop-again : tie.Need-loop-preserved invariant-loop decreases-loop
-loop-again c = omega (arith, small c)
+loop-i-preserved : tie.Need-loop-i-preserved invariant-loop-i decreases-loop-i
+loop-i-preserved c = omega (arith, small c)
 
-returns : tie.Need-returns invariant-loop decreases-loop
+returns : tie.Need-returns invariant-loop-i decreases-loop-i
 returns c = search rules
 
-pub total-spec : {M : Type 1} → statement M
-total-spec =
+pub total_spec : {M : Type 1} → statement M
+total_spec =
     tie.close
     (tie.spec
-    invariant-loop
-    decreases-loop
-    loop-holds
-    array-read-sum
-    cast-sum
-    add-sum
-    add-i
-    loop-less
-    loop-again
+    invariant-loop-i
+    decreases-loop-i
+    loop-i-init
+    bounds-sizes-i
+    overflow_cast-sum
+    overflow_add-sum
+    overflow_add-i
+    loop-i-smaller
+    loop-i-preserved
     returns)

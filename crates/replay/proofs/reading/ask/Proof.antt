@@ -11,99 +11,93 @@ use Rattle.readings.specs.Reads.{Reads}
 use Rattle.dispatch.specs.Reading.{reading_of}
 use Rattle.replay.specs.Lines.{filled, answer_by}
 use Rattle.replay.proofs.Replied.{asked_once, asked, some_turn}
-use Rattle.replay.proofs.reading.ask.Statement.{statement}
-use Rattle.replay.proofs.reading.ask.Tie as tie
+use Rattle.replay.proofs.reading.ask-answer.Statement.{statement}
+use Rattle.replay.proofs.reading.ask-answer.Tie as tie
 
-abbrev invariant-loop : tie.invariant-loop
-invariant-loop ledger numbers times said₀ kind count words n list₀ left₀ reply list left =
+abbrev invariant-loop-left : tie.invariant-loop-left
+invariant-loop-left ledger numbers times said₀ kind count words n list₀ left₀ reply list left =
     (left ≤ left₀)
     × (length list ≡ length list₀)
     × (length reply ≡ 4)
     × (left < left₀ → Reads (read (reading_of kind words (length list₀)) (contents ledger)) (filled list₀) list (answer_by reply))
 
-abbrev decreases-loop : tie.decreases-loop
-decreases-loop ledger numbers times said₀ kind count words n list₀ left₀ reply list left = left
+abbrev decreases-loop-left : tie.decreases-loop-left
+decreases-loop-left ledger numbers times said₀ kind count words n list₀ left₀ reply list left = left
 
-sub-kind : tie.Need-overflow-sub-kind invariant-loop decreases-loop
-sub-kind c = search rules
+overflow_sub-kind : tie.Need-overflow_sub-kind invariant-loop-left decreases-loop-left
+overflow_sub-kind c = search rules
 
-cast-kind : tie.Need-overflow-cast-kind invariant-loop decreases-loop
-cast-kind c = search rules
+overflow_cast-kind : tie.Need-overflow_cast-kind invariant-loop-left decreases-loop-left
+overflow_cast-kind c = search rules
 
-slice-aggregate-words : tie.Need-slice-aggregate-words invariant-loop decreases-loop
-slice-aggregate-words c = simp length-take (omega arith)
+slice_bounds-words-end : tie.Need-slice_bounds-words-end invariant-loop-left decreases-loop-left
+slice_bounds-words-end c = simp length-take (omega arith)
 
-slice-relend-prefix-list : tie.Need-slice-relend-prefix-list invariant-loop decreases-loop
-slice-relend-prefix-list c = search rules
+slice_bounds-list-end : tie.Need-slice_bounds-list-end invariant-loop-left decreases-loop-left
+slice_bounds-list-end c = search rules
 
-slice-aggregate-list : tie.Need-slice-aggregate-list invariant-loop decreases-loop
-slice-aggregate-list c = simp length-take (omega arith)
+slice_bounds-list-end-2 : tie.Need-slice_bounds-list-end-2 invariant-loop-left decreases-loop-left
+slice_bounds-list-end-2 c = simp length-take (omega arith)
 
-turns-of-requires : tie.Need-turns-of-requires invariant-loop decreases-loop
-turns-of-requires c κs = search rules
+turns_of-left-requires : tie.Need-turns_of-left-requires invariant-loop-left decreases-loop-left
+turns_of-left-requires c κs = search rules
 
-loop-holds : tie.Need-loop-init invariant-loop decreases-loop
-loop-holds c =
-    let s = c.before.before.before.before.before.before in
-    (omega arith, refl, s.requires.1.1, λ h. absurd (omega (arith, h)))
+loop-left-init : tie.Need-loop-left-init invariant-loop-left decreases-loop-left
+loop-left-init c =
+    (omega arith, refl, c.requires.1.1, λ h. absurd (omega (arith, h)))
 
-sub-left : tie.Need-overflow-sub-left invariant-loop decreases-loop
-sub-left c = search rules
+overflow_sub-left : tie.Need-overflow_sub-left invariant-loop-left decreases-loop-left
+overflow_sub-left c = search rules
 
-fill-requires : tie.Need-fill-requires invariant-loop decreases-loop
+fill-requires : tie.Need-fill-requires invariant-loop-left decreases-loop-left
 fill-requires c κs = search rules
 
-ask-requires : tie.Need-ask-requires invariant-loop decreases-loop
-ask-requires c κs = search rules
+ask-answer-requires : tie.Need-ask-answer-requires invariant-loop-left decreases-loop-left
+ask-answer-requires c κs = search rules
 
-element-write-reply : tie.Need-element-write-reply invariant-loop decreases-loop
-element-write-reply c = search rules
+bounds-reply-0 : tie.Need-bounds-reply-0 invariant-loop-left decreases-loop-left
+bounds-reply-0 c = search rules
 
-element-write-reply-2 : tie.Need-element-write-reply-2 invariant-loop decreases-loop
-element-write-reply-2 c = search rules
+bounds-reply-1 : tie.Need-bounds-reply-1 invariant-loop-left decreases-loop-left
+bounds-reply-1 c = search rules
 
-loop-less : tie.Need-loop-smaller invariant-loop decreases-loop
-loop-less c = search rules
+loop-left-smaller : tie.Need-loop-left-smaller invariant-loop-left decreases-loop-left
+loop-left-smaller c = search rules
 
-loop-again : tie.Need-loop-preserved invariant-loop decreases-loop
-loop-again c =
-    let a = c.before.before in
-    let f = a.before.before.before.before in
-    let l = f.before.before.before.loop in
-    let s = f.before.before.before.before.before.before.before.before.before.before in
-    (omega arith, a.ask.auto.1.1.1.0 ∙ f.fill.auto.0 ∙ l.invariant.1, simp length-set l.invariant.2, λ h. asked_once _ _ _ (take s.args.line.lent s.args.lent.now) l.list _ _ l.reply a.ask.result l.invariant.2 l.invariant.1 f.fill.ensures a.ask.ensures)
+loop-left-preserved : tie.Need-loop-left-preserved invariant-loop-left decreases-loop-left
+loop-left-preserved c =
+    let l = c.loop-left in
+    (omega arith, c.ask-answer.auto.1.1.1.0 ∙ c.fill.auto.0 ∙ l.invariant.1, simp length-set l.invariant.2, λ h. asked_once _ _ _ (take c.args.line.lent c.args.lent.now) l.list _ _ l.reply c.ask-answer.result l.invariant.2 l.invariant.1 c.fill.ensures c.ask-answer.ensures)
 
-same_length : tie.Need-same-length invariant-loop decreases-loop
-same_length c = search rules
+shape_of-lent : tie.Need-shape_of-lent invariant-loop-left decreases-loop-left
+shape_of-lent c = search rules
 
-returns : tie.Need-returns invariant-loop decreases-loop
+returns : tie.Need-returns invariant-loop-left decreases-loop-left
 returns c =
-    let l = c.before.before.before.loop in
-    let t = c.before.before.before.before in
-    let s = t.before.before.before.before.before.before in
-    let n = s.args.line.lent in
-    let all : length (take n s.args.lent.now) ≡ n = simp length-take (omega (arith, s.requires.0.1.words, s.requires.1.0)) in
-    asked _ _ _ _ _ _ (l.invariant.1 ∙ all) all (l.invariant.3 (omega (arith, t.turns-of.ensures, some_turn s.args.times)))
+    let l = c.loop-left in
+    let n = c.args.line.lent in
+    let all : length (take n c.args.lent.now) ≡ n = simp length-take (omega (arith, c.requires.0.1.words, c.requires.1.0)) in
+    asked _ _ _ _ _ _ (l.invariant.1 ∙ all) all (l.invariant.3 (omega (arith, c.turns_of-left.ensures, some_turn c.args.times)))
 
-pub ask-spec : {M : Type 1} → statement M
-ask-spec =
+pub ask_spec : {M : Type 1} → statement M
+ask_spec =
     tie.close
     (tie.spec
-    invariant-loop
-    decreases-loop
-    sub-kind
-    cast-kind
-    slice-aggregate-words
-    slice-relend-prefix-list
-    slice-aggregate-list
-    turns-of-requires
-    loop-holds
-    sub-left
+    invariant-loop-left
+    decreases-loop-left
+    overflow_sub-kind
+    overflow_cast-kind
+    slice_bounds-words-end
+    slice_bounds-list-end
+    slice_bounds-list-end-2
+    turns_of-left-requires
+    loop-left-init
+    overflow_sub-left
     fill-requires
-    ask-requires
-    element-write-reply
-    element-write-reply-2
-    loop-less
-    loop-again
-    same_length
+    ask-answer-requires
+    bounds-reply-0
+    bounds-reply-1
+    loop-left-smaller
+    loop-left-preserved
+    shape_of-lent
     returns)

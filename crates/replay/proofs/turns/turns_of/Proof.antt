@@ -10,11 +10,11 @@ itself : (n : ℕ) → (n ≡ 0 → ⊥) → n ≡ turns_of n
 itself zero h = absurd (h refl)
 itself (suc n) h = refl
 
-returns : tie.Need-returns
-returns c = rw c.if1.true refl
+returns-then-times-eq0 : tie.Need-returns-then-times-eq0
+returns-then-times-eq0 c = rw c.if-times-eq0.true refl
 
-returns-2 : tie.Need-returns-2
-returns-2 c = itself c.before.args.times c.if1.false
+returns-else-times-eq0 : tie.Need-returns-else-times-eq0
+returns-else-times-eq0 c = itself c.args.times c.if-times-eq0.false
 
-pub turns-of-spec : {M : Type 1} → statement M
-turns-of-spec = tie.close (tie.spec returns returns-2)
+pub turns_of_spec : {M : Type 1} → statement M
+turns_of_spec = tie.close (tie.spec returns-then-times-eq0 returns-else-times-eq0)
