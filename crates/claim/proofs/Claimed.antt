@@ -88,7 +88,7 @@ as_one_lem p [] k was is counts_were counts_are r g e v s some = absurd (omega (
 as_one_lem p (t ∷ ts) k was is counts_were counts_are r g e v s some =
     let clocks : List ℕ = t ∷ ts in
     let last : ℕ = last_of t ts in
-    let o : AsOnce t ts p = as_once t ts (steady_so 0 clocks v).1 p g in
+    let o : AsOnce t ts p = as_once t ts (steady_so 0 clocks v).1 p g.entries.rows.order in
     let left : contents r.after ≡ pruned last p = s.left ∙ o.left in
     let size : 3 * r.written ≡ length (concat_map report_words (all_reports clocks p)) =
     ap (λ n. 3 * n) s.many ∙ sym (length-words report_words 3 (λ x. refl) (all_reports clocks p)) in

@@ -1,6 +1,8 @@
 // Lists by transaction: questions, entries past their deadline, issuers of an id. The words of each are gathered in one pass over the
 // ledger, in an array that has room for all there can be, and then written out, or refused where the lent list is too short. Questions may
 // be so many that an array for them would cost more than a pass that counts them: they are written at once.
+#![tactic(auto)]
+
 ghost use Rattle.std.specs.Prelude.{◌≡◌, ◌&&◌, ◌+◌, ◌*◌, ◌≤◌, ◌<◌, ◌^◌, eqb, length};
 ghost use Rattle.rules.specs.Readings.{read, ask_questions, list_past_deadline, list_issuers, questions, questions_of, question_words, past_deadline, term_words, issuers_of, issuer_words};
 ghost use Rattle.rules.specs.Good.{GoodEntry};

@@ -11,7 +11,7 @@ use Rattle.rules.specs.Prune.{rule_of, survivors, fallen, reports, pruned}
 use Rattle.rules.specs.Entries.{admitted}
 use Rattle.rules.specs.Outcome.{said, yes_no}
 use Rattle.rules.specs.Calls.{Call, admission, absence, certify, abandonment, settled, returned, closes, finalization, terminal, stamp, prune, step, run, making, after_admission, after_absence, after_certify, after_abandonment, after_mark, after_closes, after_fated, after_finalization, after_forget, after_terminal, after_stamp, after_prune}
-use Rattle.rules.specs.Readings.{Reading, ask_questions, list_past_deadline, list_issuers, executed, read, questions, past_deadline, issuers_of, claimants, counterparts, unstamped_departures}
+use Rattle.rules.specs.Readings.{Reading, ask_questions, list_past_deadline, list_issuers, read, questions, past_deadline, issuers_of, claimants, counterparts, unstamped_departures}
 
 -- a row: what is asked, what the rules give, what the paper says
 pub record Row : Type 0 where

@@ -1,5 +1,7 @@
 // The lists of shards and routes: unstamped departures, reach, claimants, counterparts. Each is one word an item. Shards are gathered in a
 // set, which is then written out.
+#![tactic(auto)]
+
 pub mod set;
 
 ghost use Rattle.std.specs.Prelude.{◌≡◌, true, map, ◌≤◌, leb, length, take};
@@ -161,7 +163,7 @@ fn departed(
     items: &mut [u64; 40],
 ) -> usize
     requires { Filed on_file × (n ≤ 8) × (length far.now ≡ 8) × (length items.old ≡ 40) }
-    ensures { Holds (departed_over anchor.0 (take n far.now) (on_file on_file)) (made items.new result) × (result ≤ 32) }
+    ensures { Holds (departed_over anchor.0 (take n far.now) (departures.on_file on_file)) (made items.new result) × (result ≤ 32) }
 {
     let len = on_file.len;
     let mut m: usize = 0;
@@ -198,7 +200,7 @@ fn with_trie(items: &mut [u64; 40], len: usize, far: &[u64; 8], n: usize, d: u32
 // the routes, not each route against them.
 fn beyond(e: Entry, on_file: Departures, local: Shard, d: u32, items: &mut [u64; 40]) -> usize
     requires { Fits e × Filed on_file × (is_shard local.0 ≡ true) × (leb d 32 ≡ true) × (length items.old ≡ 40) }
-    ensures { Holds (counterparts_at local.0 (on_file on_file) d (plain_entry e)) (made items.new result) }
+    ensures { Holds (counterparts_at local.0 (departures.on_file on_file) d (plain_entry e)) (made items.new result) }
 {
     let routes = e.routes;
     let mut far = [0u64; 8];

@@ -11,52 +11,52 @@ use Rattle.lists.proofs.Counting.{fill_one}
 use Rattle.dispatch.proofs.fill.Statement.{statement}
 use Rattle.dispatch.proofs.fill.Tie as tie
 
-abbrev invariant-loop : tie.invariant-loop
-invariant-loop lent₀ word i₀ lent i = (i ≤ length lent₀) × (length lent ≡ length lent₀) × (take i lent ≡ map (λ w. word) (take i lent₀))
+abbrev invariant-loop-i : tie.invariant-loop-i
+invariant-loop-i lent₀ word i₀ lent i = (i ≤ length lent₀) × (length lent ≡ length lent₀) × (take i lent ≡ map (λ w. word) (take i lent₀))
 
-abbrev decreases-loop : tie.decreases-loop
-decreases-loop lent₀ word i₀ lent i = length lent₀ - i
+abbrev decreases-loop-i : tie.decreases-loop-i
+decreases-loop-i lent₀ word i₀ lent i = length lent₀ - i
 
-loop-holds : tie.Need-loop-init invariant-loop decreases-loop
-loop-holds c = search rules
+loop-i-init : tie.Need-loop-i-init invariant-loop-i decreases-loop-i
+loop-i-init c = search rules
 
-mul-lent : tie.Need-overflow-mul-lent invariant-loop decreases-loop
-mul-lent c = search rules
+offset_bounds-lent-i : tie.Need-offset_bounds-lent-i invariant-loop-i decreases-loop-i
+offset_bounds-lent-i c = search rules
 
-slice-write-lent : tie.Need-slice-write-lent invariant-loop decreases-loop
-slice-write-lent c = search rules
+bounds-lent-i : tie.Need-bounds-lent-i invariant-loop-i decreases-loop-i
+bounds-lent-i c = search rules
 
-add-i : tie.Need-overflow-add-i invariant-loop decreases-loop
-add-i c = search rules
+overflow_add-i : tie.Need-overflow_add-i invariant-loop-i decreases-loop-i
+overflow_add-i c = search rules
 
-loop-less : tie.Need-loop-smaller invariant-loop decreases-loop
-loop-less c = search rules
+loop-i-smaller : tie.Need-loop-i-smaller invariant-loop-i decreases-loop-i
+loop-i-smaller c = search rules
 
-loop-again : tie.Need-loop-preserved invariant-loop decreases-loop
-loop-again c =
-    let l = c.before.loop in
-    (search rules, search rules, fill_one _ l.lent c.before.before.args.lent.now l.i 0 _ (omega arith) (omega arith) refl l.invariant.2)
+loop-i-preserved : tie.Need-loop-i-preserved invariant-loop-i decreases-loop-i
+loop-i-preserved c =
+    let l = c.loop-i in
+    (search rules, search rules, fill_one _ l.lent c.args.lent.now l.i 0 _ (omega arith) (omega arith) refl l.invariant.2)
 
-same_length : tie.Need-same-length invariant-loop decreases-loop
-same_length c = search rules
+shape_of-lent : tie.Need-shape_of-lent invariant-loop-i decreases-loop-i
+shape_of-lent c = search rules
 
-returns : tie.Need-returns invariant-loop decreases-loop
+returns : tie.Need-returns invariant-loop-i decreases-loop-i
 returns c =
-    let l = c.before.loop in
-    let all = c.before.before.args.lent.now in
+    let l = c.loop-i in
+    let all = c.args.lent.now in
     sym (take_all l.i l.lent (omega arith)) ∙ l.invariant.2 ∙ ap (map _) (take_all l.i all (omega arith))
 
 pub fill_spec : {M : Type 1} → statement M
 fill_spec =
     tie.close
     (tie.spec
-    invariant-loop
-    decreases-loop
-    loop-holds
-    mul-lent
-    slice-write-lent
-    add-i
-    loop-less
-    loop-again
-    same_length
+    invariant-loop-i
+    decreases-loop-i
+    loop-i-init
+    offset_bounds-lent-i
+    bounds-lent-i
+    overflow_add-i
+    loop-i-smaller
+    loop-i-preserved
+    shape_of-lent
     returns)

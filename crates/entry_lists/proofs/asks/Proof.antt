@@ -11,29 +11,28 @@ use borrow.Author.Rules.{rules}
 use Rattle.entry_lists.proofs.asks.Statement.{statement}
 use Rattle.entry_lists.proofs.asks.Tie as tie
 
-is-asking-requires : tie.Need-is-asking-requires
-is-asking-requires c κs = search rules
+is_asking-requires : tie.Need-is_asking-requires
+is_asking-requires c κs = search rules
 
-all : (c : tie.Then1) →
-    let s = c.before.before.args in
+all : (c : tie.Then-is_asking) →
+    let s = c.args in
     (1 ≤ s.e.core_len) × (s.e.core_len - 1 ≡ length (questions_of s.local.0 (plain_entry s.e))) × (s.e.core_len - 1 ≤ 8)
 all c =
-    let s = c.before.before in
-    asks_all s.args.local.0 s.args.e s.requires.0 s.requires.1 (sym c.before.is-asking.ensures ∙ c.if1.true)
+    asks_all c.args.local.0 c.args.e c.requires.0 c.requires.1 (sym c.is_asking.ensures ∙ c.if-is_asking.true)
 
-cast-result : tie.Need-overflow-cast-result
-cast-result c = search rules
+overflow_cast-result : tie.Need-overflow_cast-result
+overflow_cast-result c = search rules
 
-sub-result : tie.Need-overflow-sub-result
-sub-result c = (all c.before).0
+overflow_sub-result : tie.Need-overflow_sub-result
+overflow_sub-result c = (all c.before).0
+
+returns-then-is_asking : tie.Need-returns-then-is_asking
+returns-then-is_asking c = ((all c.before).1, (all c.before).2)
 
 returns : tie.Need-returns
-returns c = ((all c.before).1, (all c.before).2)
+returns c =
+    let s = c.args in
+    (sym (asks_none s.local.0 (plain_entry s.e) (sym c.is_asking.ensures ∙ c.if-is_asking.false)), omega arith)
 
-returns-2 : tie.Need-returns-2
-returns-2 c =
-    let s = c.before.before.args in
-    (sym (asks_none s.local.0 (plain_entry s.e) (sym c.before.is-asking.ensures ∙ c.if1.false)), omega arith)
-
-pub asks-spec : {M : Type 1} → statement M
-asks-spec = tie.close (tie.spec is-asking-requires cast-result sub-result returns returns-2)
+pub asks_spec : {M : Type 1} → statement M
+asks_spec = tie.close (tie.spec is_asking-requires overflow_cast-result overflow_sub-result returns-then-is_asking returns)

@@ -17,117 +17,111 @@ use borrow.Author.Rules.{rules}
 use Rattle.entry_lists.proofs.gather_issuers.Statement.{statement}
 use Rattle.entry_lists.proofs.gather_issuers.Tie as tie
 
-abbrev invariant-loop : tie.invariant-loop
-invariant-loop id words₀ ledger roster n count₀ i₀ words count i =
+abbrev invariant-loop-i : tie.invariant-loop-i
+invariant-loop-i id words₀ ledger roster n count₀ i₀ words count i =
     (i ≤ n)
     × (length words₀ ≡ 96)
     × Sofar issuer_words 2 (λ x. refl) (keep (holds_id ledger.local.0 id) (entries_of ledger)) words₀ 0 (keep (holds_id ledger.local.0 id) (drop i (entries_of ledger))) words count i
 
-abbrev decreases-loop : tie.decreases-loop
-decreases-loop id words₀ ledger roster n count₀ i₀ words count i = n - i
+abbrev decreases-loop-i : tie.decreases-loop-i
+decreases-loop-i id words₀ ledger roster n count₀ i₀ words count i = n - i
 
-loop-holds : tie.Need-loop-init invariant-loop decreases-loop
-loop-holds c = (omega arith, c.before.requires.1, none_yet_lem issuer_words 2 _ _ _ _)
+loop-i-init : tie.Need-loop-i-init invariant-loop-i decreases-loop-i
+loop-i-init c = (omega arith, c.requires.1, none_yet_lem issuer_words 2 _ _ _ _)
 
-here : (c : tie.In-loop invariant-loop decreases-loop) → EntryAt c.before.before.before.args.t1 c.before.loop.i
-here c = entry_at c.before.before.before.args.t1 c.before.before.before.requires.0 c.before.loop.i (omega arith)
+here : (c : tie.In-loop-i invariant-loop-i decreases-loop-i) → EntryAt c.args.ledger c.loop-i.i
+here c = entry_at c.args.ledger c.requires.0 c.loop-i.i (omega arith)
 
-mul-slot : tie.Need-overflow-mul-slot invariant-loop decreases-loop
-mul-slot c = omega (arith, (here c).place)
+offset_bounds-roster-i : tie.Need-offset_bounds-roster-i invariant-loop-i decreases-loop-i
+offset_bounds-roster-i c = omega (arith, (here c).place)
 
-element-copy-out-slot : tie.Need-element-copy-out-slot invariant-loop decreases-loop
-element-copy-out-slot c = (here c).place
+bounds-roster-i : tie.Need-bounds-roster-i invariant-loop-i decreases-loop-i
+bounds-roster-i c = (here c).place
 
-mul-e : tie.Need-overflow-mul-e invariant-loop decreases-loop
-mul-e c = omega (arith, (here c.before).slot)
+offset_bounds-ledger-slot : tie.Need-offset_bounds-ledger-slot invariant-loop-i decreases-loop-i
+offset_bounds-ledger-slot c = omega (arith, (here c.before).slot)
 
-element-copy-out-e : tie.Need-element-copy-out-e invariant-loop decreases-loop
-element-copy-out-e c = (here c.before).slot
+bounds-ledger-slot : tie.Need-bounds-ledger-slot invariant-loop-i decreases-loop-i
+bounds-ledger-slot c = (here c.before).slot
 
-issues-id-requires : tie.Need-issues-id-requires invariant-loop decreases-loop
-issues-id-requires c κs = (here c.before.before.before).fits _
+issues_id-requires : tie.Need-issues_id-requires invariant-loop-i decreases-loop-i
+issues_id-requires c κs = (here c.before.before.before).fits _
 
-room : (c : tie.Then1 invariant-loop decreases-loop) → 2 * c.before.before.before.before.before.before.loop.count + 2 ≤ 96
-room c = omega (arith, (here c.before.before.before.before.before).place, c.before.before.before.before.before.before.loop.invariant.2.few)
+room : (c : tie.Then-issues_id invariant-loop-i decreases-loop-i) → 2 * c.loop-i.count + 2 ≤ 96
+room c = omega (arith, (here c.before.before.before.before.before).place, c.loop-i.invariant.2.few)
 
-mul_at : tie.Need-overflow-mul-at invariant-loop decreases-loop
-mul_at c = omega (arith, room c)
+overflow_mul-at : tie.Need-overflow_mul-at invariant-loop-i decreases-loop-i
+overflow_mul-at c = omega (arith, room c)
 
-put-requires : tie.Need-put-requires invariant-loop decreases-loop
-put-requires c κs = omega (arith, room c.before)
+put-requires : tie.Need-put-requires invariant-loop-i decreases-loop-i
+put-requires c κs = omega (arith, room c.before.before)
 
-add_words : tie.Need-overflow-add-words invariant-loop decreases-loop
-add_words c = omega (arith, room c.before.before)
+overflow_add-words : tie.Need-overflow_add-words invariant-loop-i decreases-loop-i
+overflow_add-words c = omega (arith, room c.before.before.before)
 
-mul_words : tie.Need-overflow-mul-words invariant-loop decreases-loop
-mul_words c = omega (arith, room c.before.before)
+offset_bounds-words-at : tie.Need-offset_bounds-words-at invariant-loop-i decreases-loop-i
+offset_bounds-words-at c = omega (arith, room c.before.before.before)
 
-element-write-words : tie.Need-element-write-words invariant-loop decreases-loop
-element-write-words c = omega (arith, room c.before.before)
+bounds-words-at : tie.Need-bounds-words-at invariant-loop-i decreases-loop-i
+bounds-words-at c = omega (arith, room c.before.before.before.before)
 
-add-count : tie.Need-overflow-add-count invariant-loop decreases-loop
-add-count c = omega (arith, room c.before.before)
+overflow_add-count : tie.Need-overflow_add-count invariant-loop-i decreases-loop-i
+overflow_add-count c = omega (arith, room c.before.before.before.before)
 
-add-i : tie.Need-overflow-add-i invariant-loop decreases-loop
-add-i c = search rules
+overflow_add-i : tie.Need-overflow_add-i invariant-loop-i decreases-loop-i
+overflow_add-i c = search rules
 
-loop-less : tie.Need-loop-smaller invariant-loop decreases-loop
-loop-less c = search rules
+loop-i-smaller-then-issues_id : tie.Need-loop-i-smaller-then-issues_id invariant-loop-i decreases-loop-i
+loop-i-smaller-then-issues_id c = search rules
 
-loop-again : tie.Need-loop-preserved invariant-loop decreases-loop
+loop-i-preserved-then-issues_id : tie.Need-loop-i-preserved-then-issues_id invariant-loop-i decreases-loop-i
 unfolding plain_entry
-loop-again c =
-    let d = c.before.before in
-    let i = d.before.before.before.before.before in
-    let l = i.before.loop in
-    let s = i.before.before.before in
-    let e = next-kept (holds_id s.args.t1.local.0 s.args.id) _ _ _ ((here i).next _) (sym d.before.issues-id.ensures ∙ d.if1.true) in
+loop-i-preserved-then-issues_id c =
+    let l = c.loop-i in
+    let e = next-kept (holds_id c.args.ledger.local.0 c.args.id) _ _ _ ((here c.before.before.before.before.before.before.before.before.before).next _) (sym c.issues_id.ensures ∙ c.if-issues_id.true) in
     (omega arith, l.invariant.1, put_one issuer_words 2 _ _ _ _ _ _ e (omega arith) (two_sets l.words _ (2 * l.count) _ _ c.put.ensures) l.invariant.2)
 
-add-i-2 : tie.Need-overflow-add-i-2 invariant-loop decreases-loop
-add-i-2 c = search rules
+overflow_add-i-else-issues_id : tie.Need-overflow_add-i-else-issues_id invariant-loop-i decreases-loop-i
+overflow_add-i-else-issues_id c = search rules
 
-loop-less-2 : tie.Need-loop-smaller-2 invariant-loop decreases-loop
-loop-less-2 c = search rules
+loop-i-smaller : tie.Need-loop-i-smaller invariant-loop-i decreases-loop-i
+loop-i-smaller c = search rules
 
-loop-again-2 : tie.Need-loop-preserved-2 invariant-loop decreases-loop
-loop-again-2 c =
-    let i = c.before.before.before.before.before in
-    let l = i.before.loop in
-    let s = i.before.before.before in
-    let e = next-left (holds_id s.args.t1.local.0 s.args.id) _ _ _ ((here i).next _) (sym c.before.issues-id.ensures ∙ c.if1.false) in
+loop-i-preserved : tie.Need-loop-i-preserved invariant-loop-i decreases-loop-i
+loop-i-preserved c =
+    let l = c.loop-i in
+    let e = next-left (holds_id c.args.ledger.local.0 c.args.id) _ _ _ ((here c.before.before.before.before.before).next _) (sym c.issues_id.ensures ∙ c.if-issues_id.false) in
     (omega arith, l.invariant.1, passed_by issuer_words 2 _ _ _ _ e (omega arith) l.invariant.2)
 
-returns : tie.Need-returns invariant-loop decreases-loop
+returns : tie.Need-returns invariant-loop-i decreases-loop-i
 unfolding contents
 returns c =
-    let l = c.before.loop in
-    let s = c.before.before.before in
-    let e = ap (keep (holds_id s.args.t1.local.0 s.args.id)) (none_left s.args.t1 s.requires.0 l.i (omega arith)) in
-    rw (issuers_hold (contents s.args.t1) s.requires.0.good s.args.id) (ended issuer_words 2 _ _ e (omega (arith, l.invariant.1, l.invariant.2.few, s.requires.0.roster.room)) l.invariant.2)
+    let l = c.loop-i in
+    let e = ap (keep (holds_id c.args.ledger.local.0 c.args.id)) (none_left c.args.ledger c.requires.0 l.i (omega arith)) in
+    rw (issuers_hold (contents c.args.ledger) c.requires.0.good c.args.id) (ended issuer_words 2 _ _ e (omega (arith, l.invariant.1, l.invariant.2.few, c.requires.0.roster.room)) l.invariant.2)
 
-pub gather-issuers-spec : {M : Type 1} → statement M
-gather-issuers-spec =
+pub gather_issuers_spec : {M : Type 1} → statement M
+gather_issuers_spec =
     tie.close
     (tie.spec
-    invariant-loop
-    decreases-loop
-    loop-holds
-    mul-slot
-    element-copy-out-slot
-    mul-e
-    element-copy-out-e
-    issues-id-requires
-    mul_at
+    invariant-loop-i
+    decreases-loop-i
+    loop-i-init
+    offset_bounds-roster-i
+    bounds-roster-i
+    offset_bounds-ledger-slot
+    bounds-ledger-slot
+    issues_id-requires
+    overflow_mul-at
     put-requires
-    add_words
-    mul_words
-    element-write-words
-    add-count
-    add-i
-    loop-less
-    loop-again
-    add-i-2
-    loop-less-2
-    loop-again-2
+    overflow_add-words
+    offset_bounds-words-at
+    bounds-words-at
+    overflow_add-count
+    overflow_add-i
+    loop-i-smaller-then-issues_id
+    loop-i-preserved-then-issues_id
+    overflow_add-i-else-issues_id
+    loop-i-smaller
+    loop-i-preserved
     returns)

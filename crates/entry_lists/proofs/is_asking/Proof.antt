@@ -9,19 +9,19 @@ use borrow.Author.Rules.{rules}
 use Rattle.entry_lists.proofs.is_asking.Statement.{statement}
 use Rattle.entry_lists.proofs.is_asking.Tie as tie
 
-is-core-requires : tie.Need-is-core-requires
-is-core-requires c κs = search rules
+is_core-requires : tie.Need-is_core-requires
+is_core-requires c κs = search rules
 
-returns : tie.Need-returns
+returns-then-not-is_core : tie.Need-returns-then-not-is_core
 unfolding plain_entry
-returns c = fails _ _ (sym c.before.is-core.ensures ∙ not-true _ c.if1.true)
+returns-then-not-is_core c = fails _ _ (sym c.is_core.ensures ∙ not-true _ c.if-not-is_core.true-raw)
 
 covered-requires : tie.Need-covered-requires
 covered-requires c κs = search rules
 
-returns-2 : tie.Need-returns-2
+returns : tie.Need-returns
 unfolding plain_entry
-returns-2 c = follows _ _ _ (sym c.before.before.is-core.ensures ∙ not-false _ c.before.if1.false) (ap not c.covered.ensures)
+returns c = follows _ _ _ (sym c.is_core.ensures ∙ not-false _ c.if-not-is_core.false-raw) (ap not c.covered.ensures)
 
-pub is-asking-spec : {M : Type 1} → statement M
-is-asking-spec = tie.close (tie.spec is-core-requires returns covered-requires returns-2)
+pub is_asking_spec : {M : Type 1} → statement M
+is_asking_spec = tie.close (tie.spec is_core-requires returns-then-not-is_core covered-requires returns)

@@ -6,11 +6,11 @@ use Rattle.readings.proofs.Looked.{fails, follows}
 use Rattle.entry_lists.proofs.is_crossing.Statement.{statement}
 use Rattle.entry_lists.proofs.is_crossing.Tie as tie
 
-returns : tie.Need-returns
-returns c = follows _ _ _ (eq-eqb _ _ c.if1.true) refl
+returns-then-from-local : tie.Need-returns-then-from-local
+returns-then-from-local c = follows _ _ _ (eq-eqb _ _ c.if-from-local.true) refl
 
-returns-2 : tie.Need-returns-2
-returns-2 c = ne_eqb _ _ c.if1.false ∙ fails _ _ (ne_eqb _ _ c.if1.false)
+returns-else-from-local : tie.Need-returns-else-from-local
+returns-else-from-local c = ne_eqb _ _ c.if-from-local.false ∙ fails _ _ (ne_eqb _ _ c.if-from-local.false)
 
-pub is-crossing-spec : {M : Type 1} → statement M
-is-crossing-spec = tie.close (tie.spec returns returns-2)
+pub is_crossing_spec : {M : Type 1} → statement M
+is_crossing_spec = tie.close (tie.spec returns-then-from-local returns-else-from-local)

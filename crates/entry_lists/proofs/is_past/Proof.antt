@@ -9,62 +9,52 @@ use borrow.Author.Rules.{rules}
 use Rattle.entry_lists.proofs.is_past.Statement.{statement}
 use Rattle.entry_lists.proofs.is_past.Tie as tie
 
-is-settling-requires : tie.Need-is-settling-requires
-is-settling-requires c κs = search rules
+is_settling-requires : tie.Need-is_settling-requires
+is_settling-requires c κs = search rules
 
-returns : tie.Need-returns
+returns-then-is_settling : tie.Need-returns-then-is_settling
 unfolding plain_entry
-returns c = first_fails _ _ _ (ap not (sym c.before.is-settling.ensures ∙ c.if1.true))
+returns-then-is_settling c = first_fails _ _ _ (ap not (sym c.is_settling.ensures ∙ c.if-is_settling.true))
 
-returns-2 : tie.Need-returns-2
+returns-then-time-e : tie.Need-returns-then-time-e
 unfolding plain_entry
-returns-2 c =
-    let g = c.before.before.before in
-    second_fails _ _ _ (ap not (sym g.before.is-settling.ensures ∙ g.if1.false)) (lt-leb _ _ c.if2.true)
+returns-then-time-e c =
+    second_fails _ _ _ (ap not (sym c.is_settling.ensures ∙ c.if-is_settling.false)) (lt-leb _ _ c.if-time-e.true)
 
 covered-requires : tie.Need-covered-requires
 covered-requires c κs = search rules
 
-returns-3 : tie.Need-returns-3
+returns-then-covered : tie.Need-returns-then-covered
 unfolding plain_entry
-returns-3 c =
-    let h = c.before.before in
-    let g = h.before.before.before in
-    third_tells _ _ _ _ (ap not (sym g.before.is-settling.ensures ∙ g.if1.false)) (le-leb _ _ h.if2.false)
-    (first_holds _ _ _ (sym c.before.covered.ensures ∙ c.if3.true))
+returns-then-covered c =
+    third_tells _ _ _ _ (ap not (sym c.is_settling.ensures ∙ c.if-is_settling.false)) (le-leb _ _ c.if-time-e.false)
+    (first_holds _ _ _ (sym c.covered.ensures ∙ c.if-covered.true))
 
-add-result : tie.Need-overflow-add-result
-add-result c = search rules
+overflow_add-result : tie.Need-overflow_add-result
+overflow_add-result c = search rules
 
-returns-4 : tie.Need-returns-4
+returns-then-e-lt2 : tie.Need-returns-then-e-lt2
 unfolding plain_entry
-returns-4 c =
-    let k = c.before.before in
-    let h = k.before.before in
-    let g = h.before.before.before in
-    lt-ltb _ _ c.if4.true
-    ∙ third_tells _ _ _ _ (ap not (sym g.before.is-settling.ensures ∙ g.if1.false)) (le-leb _ _ h.if2.false)
-    (second_holds _ _ _ (sym k.before.covered.ensures ∙ k.if3.false) (lt-ltb _ _ c.if4.true))
+returns-then-e-lt2 c =
+    lt-ltb _ _ c.if-e-lt2.true
+    ∙ third_tells _ _ _ _ (ap not (sym c.is_settling.ensures ∙ c.if-is_settling.false)) (le-leb _ _ c.if-time-e.false)
+    (second_holds _ _ _ (sym c.covered.ensures ∙ c.if-covered.false) (lt-ltb _ _ c.if-e-lt2.true))
 
-returns-5 : tie.Need-returns-5
+returns-else-e-lt2 : tie.Need-returns-else-e-lt2
 unfolding plain_entry
-returns-5 c =
-    let m = c.before.before in
-    let k = m.before.before in
-    let h = k.before.before in
-    let g = h.before.before.before in
-    third_tells _ _ _ _ (ap not (sym g.before.is-settling.ensures ∙ g.if1.false)) (le-leb _ _ h.if2.false)
-    (third_left _ _ _ _ (sym k.before.covered.ensures ∙ k.if3.false) (le-ltb _ _ m.if4.false) refl)
+returns-else-e-lt2 c =
+    third_tells _ _ _ _ (ap not (sym c.is_settling.ensures ∙ c.if-is_settling.false)) (le-leb _ _ c.if-time-e.false)
+    (third_left _ _ _ _ (sym c.covered.ensures ∙ c.if-covered.false) (le-ltb _ _ c.if-e-lt2.false) refl)
 
-pub is-past-spec : {M : Type 1} → statement M
-is-past-spec =
+pub is_past_spec : {M : Type 1} → statement M
+is_past_spec =
     tie.close
     (tie.spec
-    is-settling-requires
-    returns
-    returns-2
+    is_settling-requires
+    returns-then-is_settling
+    returns-then-time-e
     covered-requires
-    returns-3
-    add-result
-    returns-4
-    returns-5)
+    returns-then-covered
+    overflow_add-result
+    returns-then-e-lt2
+    returns-else-e-lt2)

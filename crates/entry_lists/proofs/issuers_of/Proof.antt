@@ -9,35 +9,33 @@ use borrow.Author.Rules.{rules}
 use Rattle.entry_lists.proofs.issuers_of.Statement.{statement}
 use Rattle.entry_lists.proofs.issuers_of.Tie as tie
 
-gather-issuers-requires : tie.Need-gather-issuers-requires
-gather-issuers-requires c κs = search rules
+gather_issuers-n-requires : tie.Need-gather_issuers-n-requires
+gather_issuers-n-requires c κs = search rules
 
-slice-aggregate-list : tie.Need-slice-aggregate-list
-slice-aggregate-list c = sym (run-size issuer_words 2 (λ x. refl) c.before.gather-issuers.ensures ∙ search rules)
+slice_bounds-list-end : tie.Need-slice_bounds-list-end
+slice_bounds-list-end c = sym (run-size issuer_words 2 (λ x. refl) c.gather_issuers-n.ensures ∙ search rules)
 
-mul-list : tie.Need-overflow-mul-list
-mul-list c = omega (arith, c.before.gather-issuers.ensures.room, run-size issuer_words 2 (λ x. refl) c.before.gather-issuers.ensures)
+overflow_mul-n : tie.Need-overflow_mul-n
+overflow_mul-n c = omega (arith, c.gather_issuers-n.ensures.room, run-size issuer_words 2 (λ x. refl) c.gather_issuers-n.ensures)
 
 list-requires : tie.Need-list-requires
-list-requires c κs = run_room issuer_words 2 (λ x. refl) c.before.before.gather-issuers.ensures
+list-requires c κs = run_room issuer_words 2 (λ x. refl) c.gather_issuers-n.ensures
 
-same_length : tie.Need-same-length
-same_length c = search rules
+shape_of-lent : tie.Need-shape_of-lent
+shape_of-lent c = search rules
 
 returns : tie.Need-returns
 returns c =
-    let g = c.before.before.before.before.before in
-    let s = g.before.before.before in
-    let l = contents s.args.ledger in
-    reads-run issuer_words 2 (λ x. refl) (issuers_of s.args.id l) _ _ _ l _ s.args.lent.now _ _ (refl) g.gather-issuers.ensures c.before.before.list.ensures
+    let l = contents c.args.ledger in
+    reads-run issuer_words 2 (λ x. refl) (issuers_of c.args.id l) _ _ _ l _ c.args.lent.now _ _ (refl) c.gather_issuers-n.ensures c.list.ensures
 
-pub issuers-of-spec : {M : Type 1} → statement M
-issuers-of-spec =
+pub issuers_of_spec : {M : Type 1} → statement M
+issuers_of_spec =
     tie.close
     (tie.spec
-    gather-issuers-requires
-    slice-aggregate-list
-    mul-list
+    gather_issuers-n-requires
+    slice_bounds-list-end
+    overflow_mul-n
     list-requires
-    same_length
+    shape_of-lent
     returns)

@@ -22,85 +22,82 @@ of id g = eqb g.id id
 abbrev is : ℕ → ℕ → Edge → Bool
 is local id g = eqb g.from local && eqb g.id id
 
-abbrev invariant-loop : tie.invariant-loop
-invariant-loop local id n froms ids i₀ i =
+abbrev invariant-loop-i : tie.invariant-loop-i
+invariant-loop-i local id n froms ids i₀ i =
     (i ≤ n)
     × ((e : Entry) → Fits e → e.edges_len ≡ n → e.froms ≡ froms → e.ids ≡ ids →
     any (is local.0 id) (drop i (edges_of e)) ≡ any (is local.0 id) (edges_of e))
 
-abbrev decreases-loop : tie.decreases-loop
-decreases-loop local id n froms ids i₀ i = n - i
+abbrev decreases-loop-i : tie.decreases-loop-i
+decreases-loop-i local id n froms ids i₀ i = n - i
 
-cast-n : tie.Need-overflow-cast-n invariant-loop decreases-loop
-cast-n c = search rules
+overflow_cast-n : tie.Need-overflow_cast-n invariant-loop-i decreases-loop-i
+overflow_cast-n c = search rules
 
-loop-holds : tie.Need-loop-init invariant-loop decreases-loop
-loop-holds c = (search rules, λ e f q a b. refl)
+loop-i-init : tie.Need-loop-i-init invariant-loop-i decreases-loop-i
+loop-i-init c = (search rules, λ e f q a b. refl)
 
-mul-t10 : tie.Need-overflow-mul-t10 invariant-loop decreases-loop
-mul-t10 c = search rules
+offset_bounds-froms-i : tie.Need-offset_bounds-froms-i invariant-loop-i decreases-loop-i
+offset_bounds-froms-i c = search rules
 
-array-read-t13 : tie.Need-array-read-t13 invariant-loop decreases-loop
-array-read-t13 c = search rules
+bounds-froms-i : tie.Need-bounds-froms-i invariant-loop-i decreases-loop-i
+bounds-froms-i c = search rules
 
-mul-is-crossing : tie.Need-overflow-mul-is-crossing invariant-loop decreases-loop
-mul-is-crossing c = search rules
+offset_bounds-ids-i : tie.Need-offset_bounds-ids-i invariant-loop-i decreases-loop-i
+offset_bounds-ids-i c = search rules
 
-array-read-is-crossing : tie.Need-array-read-is-crossing invariant-loop decreases-loop
-array-read-is-crossing c = search rules
+bounds-ids-i : tie.Need-bounds-ids-i invariant-loop-i decreases-loop-i
+bounds-ids-i c = search rules
 
-is-crossing-requires : tie.Need-is-crossing-requires invariant-loop decreases-loop
-is-crossing-requires c κs = search rules
+is_crossing-requires : tie.Need-is_crossing-requires invariant-loop-i decreases-loop-i
+is_crossing-requires c κs = search rules
 
-returns : tie.Need-returns invariant-loop decreases-loop
+returns-then-is_crossing : tie.Need-returns-then-is_crossing invariant-loop-i decreases-loop-i
 unfolding plain_entry
-returns c =
-    let s = c.before.before.before.before.before.before.before in
-    let l = c.before.before.before.loop in
-    let e = s.args.e in
-    sym (edges_hit e s.requires (is s.args.local.0 s.args.id) l.i (omega arith) (sym c.before.is-crossing.ensures ∙ c.if1.true))
-    ∙ l.invariant.1 e s.requires refl refl refl
-    ∙ sym (any-kept (of s.args.id) (starting s.args.local.0) (edges_of e))
+returns-then-is_crossing c =
+    let l = c.loop-i in
+    let e = c.args.e in
+    sym (edges_hit e c.requires (is c.args.local.0 c.args.id) l.i (omega arith) (sym c.is_crossing.ensures ∙ c.if-is_crossing.true))
+    ∙ l.invariant.1 e c.requires refl refl refl
+    ∙ sym (any-kept (of c.args.id) (starting c.args.local.0) (edges_of e))
 
-add-i : tie.Need-overflow-add-i invariant-loop decreases-loop
-add-i c = search rules
+overflow_add-i : tie.Need-overflow_add-i invariant-loop-i decreases-loop-i
+overflow_add-i c = search rules
 
-loop-less : tie.Need-loop-smaller invariant-loop decreases-loop
-loop-less c = search rules
+loop-i-smaller : tie.Need-loop-i-smaller invariant-loop-i decreases-loop-i
+loop-i-smaller c = search rules
 
-loop-again : tie.Need-loop-preserved invariant-loop decreases-loop
-loop-again c =
-    let s = c.before.before.before.before.before.before.before in
-    let l = c.before.before.before.loop in (
+loop-i-preserved : tie.Need-loop-i-preserved invariant-loop-i decreases-loop-i
+loop-i-preserved c =
+    let l = c.loop-i in (
       search rules,
-      λ e f q a b. edges_miss e f (is s.args.local.0 s.args.id) l.i (omega (arith, q)) (rw (a, b) (sym c.before.is-crossing.ensures ∙ c.if1.false)) ∙ l.invariant.1 e f q a b,
+      λ e f q a b. edges_miss e f (is c.args.local.0 c.args.id) l.i (omega (arith, q)) (rw (a, b) (sym c.is_crossing.ensures ∙ c.if-is_crossing.false)) ∙ l.invariant.1 e f q a b,
     )
 
-returns-2 : tie.Need-returns-2 invariant-loop decreases-loop
+returns : tie.Need-returns invariant-loop-i decreases-loop-i
 unfolding plain_entry
-returns-2 c =
-    let s = c.before.before.before.before.before in
-    let l = c.before.loop in
-    let e = s.args.e in
-    sym (edges-done e s.requires (is s.args.local.0 s.args.id) l.i (omega arith))
-    ∙ l.invariant.1 e s.requires refl refl refl
-    ∙ sym (any-kept (of s.args.id) (starting s.args.local.0) (edges_of e))
+returns c =
+    let l = c.loop-i in
+    let e = c.args.e in
+    sym (edges-done e c.requires (is c.args.local.0 c.args.id) l.i (omega arith))
+    ∙ l.invariant.1 e c.requires refl refl refl
+    ∙ sym (any-kept (of c.args.id) (starting c.args.local.0) (edges_of e))
 
-pub issues-id-spec : {M : Type 1} → statement M
-issues-id-spec =
+pub issues_id_spec : {M : Type 1} → statement M
+issues_id_spec =
     tie.close
     (tie.spec
-    invariant-loop
-    decreases-loop
-    cast-n
-    loop-holds
-    mul-t10
-    array-read-t13
-    mul-is-crossing
-    array-read-is-crossing
-    is-crossing-requires
-    returns
-    add-i
-    loop-less
-    loop-again
-    returns-2)
+    invariant-loop-i
+    decreases-loop-i
+    overflow_cast-n
+    loop-i-init
+    offset_bounds-froms-i
+    bounds-froms-i
+    offset_bounds-ids-i
+    bounds-ids-i
+    is_crossing-requires
+    returns-then-is_crossing
+    overflow_add-i
+    loop-i-smaller
+    loop-i-preserved
+    returns)

@@ -12,50 +12,47 @@ use borrow.Author.Rules.{rules}
 use Rattle.entry_lists.proofs.past_deadline.Statement.{statement}
 use Rattle.entry_lists.proofs.past_deadline.Tie as tie
 
-is-time-requires : tie.Need-is-time-requires
-is-time-requires c κs = search rules
+is_time-requires : tie.Need-is_time-requires
+is_time-requires c κs = search rules
 
 refusal-requires : tie.Need-refusal-requires
 refusal-requires c κs = search rules
 
-returns : tie.Need-returns
-returns c =
-    let s = c.before.before.before.before in
-    turned_away term_words (past_deadline s.args.time.0 (contents s.args.ledger)) (contents s.args.ledger) (clock_refusal s.args.time.0) s.args.lent.now 3 _
-    (stops _ 3 0 (ap not (sym c.before.before.is-time.ensures) ∙ c.before.if1.true)) (omega arith) c.refusal.ensures
+returns-then-not-is_time : tie.Need-returns-then-not-is_time
+returns-then-not-is_time c =
+    turned_away term_words (past_deadline c.args.time.0 (contents c.args.ledger)) (contents c.args.ledger) (clock_refusal c.args.time.0) c.args.lent.now 3 _
+    (stops _ 3 0 (ap not (sym c.is_time.ensures) ∙ c.if-not-is_time.true-raw)) (omega arith) c.refusal.ensures
 
-gather-past-requires : tie.Need-gather-past-requires
-gather-past-requires c κs = search rules
+gather_past-n-requires : tie.Need-gather_past-n-requires
+gather_past-n-requires c κs = search rules
 
-slice-aggregate-list : tie.Need-slice-aggregate-list
-slice-aggregate-list c = sym (run-size term_words 5 (λ x. refl) c.before.gather-past.ensures ∙ search rules)
+slice_bounds-list-end : tie.Need-slice_bounds-list-end
+slice_bounds-list-end c = sym (run-size term_words 5 (λ x. refl) c.gather_past-n.ensures ∙ search rules)
 
-mul-list : tie.Need-overflow-mul-list
-mul-list c = omega (arith, c.before.gather-past.ensures.room, run-size term_words 5 (λ x. refl) c.before.gather-past.ensures)
+overflow_mul-n : tie.Need-overflow_mul-n
+overflow_mul-n c = omega (arith, c.gather_past-n.ensures.room, run-size term_words 5 (λ x. refl) c.gather_past-n.ensures)
 
 list-requires : tie.Need-list-requires
-list-requires c κs = run_room term_words 5 (λ x. refl) c.before.before.gather-past.ensures
+list-requires c κs = run_room term_words 5 (λ x. refl) c.gather_past-n.ensures
 
-same_length : tie.Need-same-length
-same_length c = search rules
+shape_of-lent : tie.Need-shape_of-lent
+shape_of-lent c = search rules
 
-returns-2 : tie.Need-returns-2
-returns-2 c =
-    let g = c.before.before.before.before.before in
-    let s = g.before.before.before.before.before in
-    let l = contents s.args.ledger in
-    reads-run term_words 5 (λ x. refl) (past_deadline s.args.time.0 l) _ _ _ l _ s.args.lent.now _ _ (goes_on _ 3 0 (ap not (sym g.before.before.before.is-time.ensures) ∙ g.before.before.if1.false)) g.gather-past.ensures c.before.before.list.ensures
+returns : tie.Need-returns
+returns c =
+    let l = contents c.args.ledger in
+    reads-run term_words 5 (λ x. refl) (past_deadline c.args.time.0 l) _ _ _ l _ c.args.lent.now _ _ (goes_on _ 3 0 (ap not (sym c.is_time.ensures) ∙ c.if-not-is_time.false-raw)) c.gather_past-n.ensures c.list.ensures
 
-pub past-deadline-spec : {M : Type 1} → statement M
-past-deadline-spec =
+pub past_deadline_spec : {M : Type 1} → statement M
+past_deadline_spec =
     tie.close
     (tie.spec
-    is-time-requires
+    is_time-requires
     refusal-requires
-    returns
-    gather-past-requires
-    slice-aggregate-list
-    mul-list
+    returns-then-not-is_time
+    gather_past-n-requires
+    slice_bounds-list-end
+    overflow_mul-n
     list-requires
-    same_length
-    returns-2)
+    shape_of-lent
+    returns)

@@ -15,194 +15,179 @@ use borrow.Author.Rules.{rules}
 use Rattle.entry_lists.proofs.questions.Statement.{statement}
 use Rattle.entry_lists.proofs.questions.Tie as tie
 
-abbrev invariant-loop : tie.invariant-loop
-invariant-loop lent ledger roster n count₀ i₀ count i =
+abbrev invariant-loop-i : tie.invariant-loop-i
+invariant-loop-i lent ledger roster n count₀ i₀ count i =
     (i ≤ n)
     × (count ≤ 8 * i)
     × (count + length (concat_map (questions_of ledger.local.0) (drop i (entries_of ledger))) ≡ length (concat_map (questions_of ledger.local.0) (entries_of ledger)))
 
-abbrev decreases-loop : tie.decreases-loop
-decreases-loop lent ledger roster n count₀ i₀ count i = n - i
+abbrev decreases-loop-i : tie.decreases-loop-i
+decreases-loop-i lent ledger roster n count₀ i₀ count i = n - i
 
-abbrev invariant-loop2 : tie.invariant-loop2
-invariant-loop2 lent₀ ledger roster n count i written₀ k₀ lent written k =
+abbrev invariant-loop-k : tie.invariant-loop-k
+invariant-loop-k lent₀ ledger roster n count i written₀ k₀ lent written k =
     (k ≤ n)
     × Sofar question_words 5 (λ x. refl) (concat_map (questions_of ledger.local.0) (entries_of ledger)) lent₀ 0 (concat_map (questions_of ledger.local.0) (drop k (entries_of ledger))) lent written (8 * k)
 
-abbrev decreases-loop2 : tie.decreases-loop2
-decreases-loop2 lent₀ ledger roster n count i written₀ k₀ lent written k = n - k
+abbrev decreases-loop-k : tie.decreases-loop-k
+decreases-loop-k lent₀ ledger roster n count i written₀ k₀ lent written k = n - k
 
-loop-holds : tie.Need-loop-init invariant-loop decreases-loop invariant-loop2 decreases-loop2
-loop-holds c = (omega arith, omega arith, omega arith)
+loop-i-init : tie.Need-loop-i-init invariant-loop-i decreases-loop-i invariant-loop-k decreases-loop-k
+loop-i-init c = (omega arith, omega arith, omega arith)
 
-here : (c : tie.In-loop invariant-loop decreases-loop invariant-loop2 decreases-loop2) → EntryAt c.before.before.before.before.args.t1 c.before.loop.i
-here c = entry_at c.before.before.before.before.args.t1 c.before.before.before.before.requires c.before.loop.i (omega arith)
+here : (c : tie.In-loop-i invariant-loop-i decreases-loop-i invariant-loop-k decreases-loop-k) → EntryAt c.args.ledger c.loop-i.i
+here c = entry_at c.args.ledger c.requires c.loop-i.i (omega arith)
 
-mul-slot : tie.Need-overflow-mul-slot invariant-loop decreases-loop invariant-loop2 decreases-loop2
-mul-slot c = omega (arith, (here c).place)
+offset_bounds-roster-i : tie.Need-offset_bounds-roster-i invariant-loop-i decreases-loop-i invariant-loop-k decreases-loop-k
+offset_bounds-roster-i c = omega (arith, (here c).place)
 
-element-copy-out-slot : tie.Need-element-copy-out-slot invariant-loop decreases-loop invariant-loop2 decreases-loop2
-element-copy-out-slot c = (here c).place
+bounds-roster-i : tie.Need-bounds-roster-i invariant-loop-i decreases-loop-i invariant-loop-k decreases-loop-k
+bounds-roster-i c = (here c).place
 
-mul-e : tie.Need-overflow-mul-e invariant-loop decreases-loop invariant-loop2 decreases-loop2
-mul-e c = omega (arith, (here c.before).slot)
+offset_bounds-ledger-slot : tie.Need-offset_bounds-ledger-slot invariant-loop-i decreases-loop-i invariant-loop-k decreases-loop-k
+offset_bounds-ledger-slot c = omega (arith, (here c.before).slot)
 
-element-copy-out-e : tie.Need-element-copy-out-e invariant-loop decreases-loop invariant-loop2 decreases-loop2
-element-copy-out-e c = (here c.before).slot
+bounds-ledger-slot : tie.Need-bounds-ledger-slot invariant-loop-i decreases-loop-i invariant-loop-k decreases-loop-k
+bounds-ledger-slot c = (here c.before).slot
 
-asks-requires : tie.Need-asks-requires invariant-loop decreases-loop invariant-loop2 decreases-loop2
+asks-count-requires : tie.Need-asks-count-requires invariant-loop-i decreases-loop-i invariant-loop-k decreases-loop-k
 unfolding contents
-asks-requires c κs = ((here c.before.before.before).fits _, (here c.before.before.before).good _)
+asks-count-requires c κs = ((here c.before.before.before).fits _, (here c.before.before.before).good _)
 
-add-count : tie.Need-overflow-add-count invariant-loop decreases-loop invariant-loop2 decreases-loop2
-add-count c = omega (arith, c.asks.ensures.1, (here c.before.before.before.before).place)
+overflow_add-count : tie.Need-overflow_add-count invariant-loop-i decreases-loop-i invariant-loop-k decreases-loop-k
+overflow_add-count c = omega (arith, c.asks-count.ensures.1, (here c.before.before.before.before).place)
 
-add-i : tie.Need-overflow-add-i invariant-loop decreases-loop invariant-loop2 decreases-loop2
-add-i c = search rules
+overflow_add-i : tie.Need-overflow_add-i invariant-loop-i decreases-loop-i invariant-loop-k decreases-loop-k
+overflow_add-i c = search rules
 
-loop-less : tie.Need-loop-smaller invariant-loop decreases-loop invariant-loop2 decreases-loop2
-loop-less c = search rules
+loop-i-smaller : tie.Need-loop-i-smaller invariant-loop-i decreases-loop-i invariant-loop-k decreases-loop-k
+loop-i-smaller c = search rules
 
-loop-again : tie.Need-loop-preserved invariant-loop decreases-loop invariant-loop2 decreases-loop2
-loop-again c =
-    let i = c.before.before.before.before in
-    let l = i.before.loop in
-    let s = i.before.before.before.before in
-    (omega arith, omega (arith, c.asks.ensures.1), counted _ _ _ _ _ _ c.asks.ensures.0 (asks_next s.args.t1.local.0 _ _ _ ((here i).next _)) l.invariant.2)
+loop-i-preserved : tie.Need-loop-i-preserved invariant-loop-i decreases-loop-i invariant-loop-k decreases-loop-k
+loop-i-preserved c =
+    let l = c.loop-i in
+    (omega arith, omega (arith, c.asks-count.ensures.1), counted _ _ _ _ _ _ c.asks-count.ensures.0 (asks_next c.args.ledger.local.0 _ _ _ ((here c.before.before.before.before).next _)) l.invariant.2)
 
 -- all are counted
-total : (c : tie.After-loop invariant-loop decreases-loop invariant-loop2 decreases-loop2) → c.before.loop.count ≡ length (questions (contents c.before.before.before.before.args.t1))
+total : (c : tie.After-loop-i invariant-loop-i decreases-loop-i invariant-loop-k decreases-loop-k) → c.loop-i.count ≡ length (questions (contents c.args.ledger))
 unfolding contents questions
 total c =
-    let l = c.before.loop in
-    let s = c.before.before.before.before in
-    omega (arith, l.invariant.2, ap (λ m. length (concat_map (questions_of s.args.t1.local.0) m)) (none_left s.args.t1 s.requires l.i (omega arith)))
+    let l = c.loop-i in
+    omega (arith, l.invariant.2, ap (λ m. length (concat_map (questions_of c.args.ledger.local.0) m)) (none_left c.args.ledger c.requires l.i (omega arith)))
 
-mul-if1 : tie.Need-overflow-mul-if1 invariant-loop decreases-loop invariant-loop2 decreases-loop2
-mul-if1 c = omega (arith, c.before.loop.invariant.1, c.before.before.before.before.requires.roster.room)
+overflow_mul-count : tie.Need-overflow_mul-count invariant-loop-i decreases-loop-i invariant-loop-k decreases-loop-k
+overflow_mul-count c = omega (arith, c.loop-i.invariant.1, c.requires.roster.room)
 
-refusal-requires : tie.Need-refusal-requires invariant-loop decreases-loop invariant-loop2 decreases-loop2
+refusal-requires : tie.Need-refusal-requires invariant-loop-i decreases-loop-i invariant-loop-k decreases-loop-k
 refusal-requires c κs = search rules
 
-returns : tie.Need-returns invariant-loop decreases-loop invariant-loop2 decreases-loop2
-returns c =
-    let a = c.before.before in
-    let s = a.before.before.before.before in
-    reads_none question_words 5 (λ x. refl) (questions (contents s.args.t1)) (contents s.args.t1) s.args.lent.now _ (omega (arith, total a)) c.refusal.ensures
+returns-then-lent-count : tie.Need-returns-then-lent-count invariant-loop-i decreases-loop-i invariant-loop-k decreases-loop-k
+returns-then-lent-count c =
+    reads_none question_words 5 (λ x. refl) (questions (contents c.args.ledger)) (contents c.args.ledger) c.args.lent.now _ (omega (arith, total c.before.before)) c.refusal.ensures
 
-loop2-holds : tie.Need-loop2-init invariant-loop decreases-loop invariant-loop2 decreases-loop2
-loop2-holds c = (omega arith, none_yet_lem question_words 5 _ _ _ _)
+loop-k-init : tie.Need-loop-k-init invariant-loop-i decreases-loop-i invariant-loop-k decreases-loop-k
+loop-k-init c = (omega arith, none_yet_lem question_words 5 _ _ _ _)
 
-here2 : (c : tie.In-loop2 invariant-loop decreases-loop invariant-loop2 decreases-loop2) → EntryAt c.before.before.before.before.before.before.before.args.t1 c.before.loop2.k
-here2 c = entry_at c.before.before.before.before.before.before.before.args.t1 c.before.before.before.before.before.before.before.requires c.before.loop2.k (omega arith)
+here2 : (c : tie.In-loop-k invariant-loop-i decreases-loop-i invariant-loop-k decreases-loop-k) → EntryAt c.args.ledger c.loop-k.k
+here2 c = entry_at c.args.ledger c.requires c.loop-k.k (omega arith)
 
-mul-slot-2 : tie.Need-overflow-mul-slot-2 invariant-loop decreases-loop invariant-loop2 decreases-loop2
-mul-slot-2 c = omega (arith, (here2 c).place)
+offset_bounds-roster-k : tie.Need-offset_bounds-roster-k invariant-loop-i decreases-loop-i invariant-loop-k decreases-loop-k
+offset_bounds-roster-k c = omega (arith, (here2 c).place)
 
-element-copy-out-slot-2 : tie.Need-element-copy-out-slot-2 invariant-loop decreases-loop invariant-loop2 decreases-loop2
-element-copy-out-slot-2 c = (here2 c).place
+bounds-roster-k : tie.Need-bounds-roster-k invariant-loop-i decreases-loop-i invariant-loop-k decreases-loop-k
+bounds-roster-k c = (here2 c).place
 
-mul-e-2 : tie.Need-overflow-mul-e-2 invariant-loop decreases-loop invariant-loop2 decreases-loop2
-mul-e-2 c = omega (arith, (here2 c.before).slot)
+offset_bounds-ledger-slot-in-loop-k : tie.Need-offset_bounds-ledger-slot-in-loop-k invariant-loop-i decreases-loop-i invariant-loop-k decreases-loop-k
+offset_bounds-ledger-slot-in-loop-k c = omega (arith, (here2 c.before).slot)
 
-element-copy-out-e-2 : tie.Need-element-copy-out-e-2 invariant-loop decreases-loop invariant-loop2 decreases-loop2
-element-copy-out-e-2 c = (here2 c.before).slot
+bounds-ledger-slot-in-loop-k : tie.Need-bounds-ledger-slot-in-loop-k invariant-loop-i decreases-loop-i invariant-loop-k decreases-loop-k
+bounds-ledger-slot-in-loop-k c = (here2 c.before).slot
 
-is-asking-requires : tie.Need-is-asking-requires invariant-loop decreases-loop invariant-loop2 decreases-loop2
-is-asking-requires c κs = (here2 c.before.before).fits _
+is_asking-requires : tie.Need-is_asking-requires invariant-loop-i decreases-loop-i invariant-loop-k decreases-loop-k
+is_asking-requires c κs = (here2 c.before.before).fits _
 
-put-questions-requires : tie.Need-put-questions-requires invariant-loop decreases-loop invariant-loop2 decreases-loop2
+put_questions-written-requires : tie.Need-put_questions-written-requires invariant-loop-i decreases-loop-i invariant-loop-k decreases-loop-k
 unfolding contents questions
-put-questions-requires c κs =
-    let t = c.before.before in
-    let i = t.before.before.before.before in
-    let l = i.before.loop2 in
-    let s = i.before.before.before.before.before.before.before in
-    let local = s.args.t1.local.0 in
-    let all = length (concat_map (questions_of local) (entries_of s.args.t1)) in
-    let asking = sym t.before.is-asking.ensures ∙ t.if2.true in
-    ((here2 i).ranges _, asks_room local l.written (0 + all) (length l.lent) _ _ _ ((here2 i).next _) asking l.invariant.1.some (omega (arith, total i.before.before.before, i.before.before.if1.false, l.invariant.1.size)))
+put_questions-written-requires c κs =
+    let l = c.loop-k in
+    let local = c.args.ledger.local.0 in
+    let all = length (concat_map (questions_of local) (entries_of c.args.ledger)) in
+    let asking = sym c.is_asking.ensures ∙ c.if-is_asking.true in
+    ((here2 c.before.before.before.before.before.before).fits _, asks_room local l.written (0 + all) (length l.lent) _ _ _ ((here2 c.before.before.before.before.before.before).next _) asking l.invariant.1.some (omega (arith, total c.before.before.before.before.before.before.before.before.before, c.if-lent-count.false, l.invariant.1.size)))
 
-add-k : tie.Need-overflow-add-k invariant-loop decreases-loop invariant-loop2 decreases-loop2
-add-k c = search rules
+overflow_add-k : tie.Need-overflow_add-k invariant-loop-i decreases-loop-i invariant-loop-k decreases-loop-k
+overflow_add-k c = search rules
 
-loop2-less : tie.Need-loop2-smaller invariant-loop decreases-loop invariant-loop2 decreases-loop2
-loop2-less c = search rules
+loop-k-smaller-then-is_asking : tie.Need-loop-k-smaller-then-is_asking invariant-loop-i decreases-loop-i invariant-loop-k decreases-loop-k
+loop-k-smaller-then-is_asking c = search rules
 
-loop2-again : tie.Need-loop2-preserved invariant-loop decreases-loop invariant-loop2 decreases-loop2
-loop2-again c =
-    let p = c.before.before in
-    let t = p.before.before.before in
-    let i = t.before.before.before.before in
-    let l = i.before.loop2 in
-    let local = i.before.before.before.before.before.before.before.args.t1.local.0 in
-    let e = next_asks local _ _ _ ((here2 i).next _) (sym t.before.is-asking.ensures ∙ t.if2.true) in
-    (omega arith, put-run question_words 5 _ _ _ _ 8 _ _ _ p.put-questions.ensures e (asks_few local _ ((here2 i).ranges _)) (omega arith) l.invariant.1)
+loop-k-preserved-then-is_asking : tie.Need-loop-k-preserved-then-is_asking invariant-loop-i decreases-loop-i invariant-loop-k decreases-loop-k
+loop-k-preserved-then-is_asking c =
+    let l = c.loop-k in
+    let local = c.args.ledger.local.0 in
+    let e = next_asks local _ _ _ ((here2 c.before.before.before.before.before.before.before.before.before).next _) (sym c.is_asking.ensures ∙ c.if-is_asking.true) in
+    (omega arith, put-run question_words 5 _ _ _ _ 8 _ _ _ c.put_questions-written.ensures e (asks_few local _ ((here2 c.before.before.before.before.before.before.before.before.before).fits _)) (omega arith) l.invariant.1)
 
-add-k-2 : tie.Need-overflow-add-k-2 invariant-loop decreases-loop invariant-loop2 decreases-loop2
-add-k-2 c = search rules
+overflow_add-k-else-is_asking : tie.Need-overflow_add-k-else-is_asking invariant-loop-i decreases-loop-i invariant-loop-k decreases-loop-k
+overflow_add-k-else-is_asking c = search rules
 
-loop2-less-2 : tie.Need-loop2-smaller-2 invariant-loop decreases-loop invariant-loop2 decreases-loop2
-loop2-less-2 c = search rules
+loop-k-smaller : tie.Need-loop-k-smaller invariant-loop-i decreases-loop-i invariant-loop-k decreases-loop-k
+loop-k-smaller c = search rules
 
-loop2-again-2 : tie.Need-loop2-preserved-2 invariant-loop decreases-loop invariant-loop2 decreases-loop2
-loop2-again-2 c =
-    let i = c.before.before.before.before in
-    let l = i.before.loop2 in
-    let e = next_silent i.before.before.before.before.before.before.before.args.t1.local.0 _ _ _ ((here2 i).next _) (sym c.before.is-asking.ensures ∙ c.if2.false) in
+loop-k-preserved : tie.Need-loop-k-preserved invariant-loop-i decreases-loop-i invariant-loop-k decreases-loop-k
+loop-k-preserved c =
+    let l = c.loop-k in
+    let e = next_silent c.args.ledger.local.0 _ _ _ ((here2 c.before.before.before.before).next _) (sym c.is_asking.ensures ∙ c.if-is_asking.false) in
     (omega arith, passed_by question_words 5 _ _ _ _ e (omega arith) l.invariant.1)
 
-answer-requires : tie.Need-answer-requires invariant-loop decreases-loop invariant-loop2 decreases-loop2
+answer-requires : tie.Need-answer-requires invariant-loop-i decreases-loop-i invariant-loop-k decreases-loop-k
 answer-requires c κs = search rules
 
-same_length : tie.Need-same-length invariant-loop decreases-loop invariant-loop2 decreases-loop2
-same_length c = c.before.before.loop2.invariant.1.size
+shape_of-lent : tie.Need-shape_of-lent invariant-loop-i decreases-loop-i invariant-loop-k decreases-loop-k
+shape_of-lent c = c.loop-k.invariant.1.size
 
-returns-2 : tie.Need-returns-2 invariant-loop decreases-loop invariant-loop2 decreases-loop2
+returns : tie.Need-returns invariant-loop-i decreases-loop-i invariant-loop-k decreases-loop-k
 unfolding contents questions
-returns-2 c =
-    let f = c.before in
-    let l = f.before.loop2 in
-    let a = f.before.before.before in
-    let s = a.before.before.before.before in
-    let e = ap (concat_map (questions_of s.args.t1.local.0)) (none_left s.args.t1 s.requires l.k (omega arith)) in
-    reads_all question_words 5 (λ x. refl) (questions (contents s.args.t1)) (contents s.args.t1) s.args.lent.now _ _ _
-    (ended question_words 5 _ _ e (omega (arith, total a, f.before.before.if1.false, l.invariant.1.some, ap length e)) l.invariant.1) c.answer.ensures
+returns c =
+    let l = c.loop-k in
+    let e = ap (concat_map (questions_of c.args.ledger.local.0)) (none_left c.args.ledger c.requires l.k (omega arith)) in
+    reads_all question_words 5 (λ x. refl) (questions (contents c.args.ledger)) (contents c.args.ledger) c.args.lent.now _ _ _
+    (ended question_words 5 _ _ e (omega (arith, total c.before.before.before.before, c.if-lent-count.false, l.invariant.1.some, ap length e)) l.invariant.1) c.answer.ensures
 
-pub questions-spec : {M : Type 1} → statement M
-questions-spec =
+pub questions_spec : {M : Type 1} → statement M
+questions_spec =
     tie.close
     (tie.spec
-    invariant-loop
-    decreases-loop
-    invariant-loop2
-    decreases-loop2
-    loop-holds
-    mul-slot
-    element-copy-out-slot
-    mul-e
-    element-copy-out-e
-    asks-requires
-    add-count
-    add-i
-    loop-less
-    loop-again
-    mul-if1
+    invariant-loop-i
+    decreases-loop-i
+    invariant-loop-k
+    decreases-loop-k
+    loop-i-init
+    offset_bounds-roster-i
+    bounds-roster-i
+    offset_bounds-ledger-slot
+    bounds-ledger-slot
+    asks-count-requires
+    overflow_add-count
+    overflow_add-i
+    loop-i-smaller
+    loop-i-preserved
+    overflow_mul-count
     refusal-requires
-    returns
-    loop2-holds
-    mul-slot-2
-    element-copy-out-slot-2
-    mul-e-2
-    element-copy-out-e-2
-    is-asking-requires
-    put-questions-requires
-    add-k
-    loop2-less
-    loop2-again
-    add-k-2
-    loop2-less-2
-    loop2-again-2
+    returns-then-lent-count
+    loop-k-init
+    offset_bounds-roster-k
+    bounds-roster-k
+    offset_bounds-ledger-slot-in-loop-k
+    bounds-ledger-slot-in-loop-k
+    is_asking-requires
+    put_questions-written-requires
+    overflow_add-k
+    loop-k-smaller-then-is_asking
+    loop-k-preserved-then-is_asking
+    overflow_add-k-else-is_asking
+    loop-k-smaller
+    loop-k-preserved
     answer-requires
-    same_length
-    returns-2)
+    shape_of-lent
+    returns)

@@ -5,25 +5,22 @@ use borrow.Author.Rules.{rules}
 use Rattle.shard_lists.proofs.beyond.Statement.{statement}
 use Rattle.shard_lists.proofs.beyond.Tie as tie
 
-cast-remote : tie.Need-overflow-cast-remote
-cast-remote c = search rules
+overflow_cast-e : tie.Need-overflow_cast-e
+overflow_cast-e c = search rules
 
-remote-requires : tie.Need-remote-requires
-remote-requires c κs = search rules
+remote-n-requires : tie.Need-remote-n-requires
+remote-n-requires c κs = search rules
 
-departed-requires : tie.Need-departed-requires
-departed-requires c κs = search rules
+departed-m-requires : tie.Need-departed-m-requires
+departed-m-requires c κs = search rules
 
-with-trie-requires : tie.Need-with-trie-requires
-with-trie-requires c κs = search rules
+with_trie-requires : tie.Need-with_trie-requires
+with_trie-requires c κs = search rules
 
 returns : tie.Need-returns
 returns c =
-    let m = c.before.before.before in
-    let n = m.before.before.before in
-    let s = n.before.before.before.before in
-    counterparts_once s.args.e s.args.local.0 s.args.on-file s.args.d _ _ _ s.requires.1.rising n.remote.ensures.holds m.departed.ensures.0 c.with-trie.ensures
+    counterparts_once c.args.e c.args.local.0 c.args.on_file c.args.d _ _ _ c.requires.1.rising c.remote-n.ensures.holds c.departed-m.ensures.0 c.with_trie.ensures
 
-pub beyond-spec : {M : Type 1} → statement M
-beyond-spec =
-    tie.close (tie.spec cast-remote remote-requires departed-requires with-trie-requires returns)
+pub beyond_spec : {M : Type 1} → statement M
+beyond_spec =
+    tie.close (tie.spec overflow_cast-e remote-n-requires departed-m-requires with_trie-requires returns)

@@ -11,71 +11,67 @@ use borrow.Author.Rules.{rules}
 use Rattle.shard_lists.proofs.claimants.Statement.{statement}
 use Rattle.shard_lists.proofs.claimants.Tie as tie
 
-there : (c : tie.After-slot) → Owed c.before.before.before.before.before.args.t1 (number_of c.before.before.before.before.before.args.tx) c.slot.given.0.0
+there : (c : tie.In-At) → Owed c.args.ledger (number_of c.args.tx) c.in-At.slot
 there c =
-    let s = c.before.before.before.before.before in
-    owed_in s.args.t1 s.requires (number_of s.args.tx) c.slot.given.0.0 (rw c.slot.given.1 at c.before.before.slot_of.ensures)
+    owed_in c.args.ledger c.requires (number_of c.args.tx) c.in-At.slot (rw c.in-At.is at c.slot_of.ensures)
 
-slot-of-requires : tie.Need-slot-of-requires
-slot-of-requires c κs = search rules
+slot_of-requires : tie.Need-slot_of-requires
+slot_of-requires c κs = search rules
 
-enum-known-slot : tie.Need-enum-known-slot
-enum-known-slot c = search rules
+enum_known-slot : tie.Need-enum_known-slot
+enum_known-slot c = search rules
 
-enum_told : tie.Need-enum-told
-enum_told c = search rules
+enum_told-1 : tie.Need-enum_told-1
+enum_told-1 c = search rules
 
 answer-requires : tie.Need-answer-requires
 answer-requires c κs = search rules
 
+returns-in_default : tie.Need-returns-in_default
+unfolding claimants contents
+returns-in_default c =
+    let a = c.args in
+    not-owed a.ledger c.requires (number_of a.tx) a.lent.now (claimants_of a.ledger.local.0 a.r.0) 0 refl _ (rw c.in_default.is at c.slot_of.ensures) c.answer.ensures
+
+offset_bounds-ledger-slot : tie.Need-offset_bounds-ledger-slot
+offset_bounds-ledger-slot c = omega (arith, (there c).slot)
+
+bounds-ledger-slot : tie.Need-bounds-ledger-slot
+bounds-ledger-slot c = omega (arith, (there c).slot)
+
+destinations-n-requires : tie.Need-destinations-n-requires
+destinations-n-requires c κs = ((there c.before.before.before).fits _, search rules)
+
+slice_bounds-list-end : tie.Need-slice_bounds-list-end
+slice_bounds-list-end c = sym c.destinations-n.ensures.sound.sized.size
+
+list-requires : tie.Need-list-requires
+list-requires c κs = set_room c.destinations-n.ensures
+
+shape_of-lent : tie.Need-shape_of-lent
+shape_of-lent c = search rules
+
 returns : tie.Need-returns
 unfolding claimants contents
 returns c =
-    let s = c.before.before.before.before.before.before in
-    let a = s.args in
-    not-owed a.t1 s.requires (number_of a.tx) a.lent.now (claimants_of a.t1.local.0 a.r.0) 0 refl _ (rw c.before.enum_told.given.1 at c.before.before.before.slot_of.ensures) c.answer.ensures
+    let a = c.args in
+    let d = c.destinations-n.ensures in
+    of_owed a.ledger c.requires (number_of a.tx) a.lent.now (claimants_of a.ledger.local.0 a.r.0) 0 refl c.in-At.slot _ _ _ _ _
+    (there c.before.before.before.before.before.before.before.before.before) (set_room d) d.holds c.list.ensures
 
-mul-e : tie.Need-overflow-mul-e
-mul-e c = omega (arith, (there c.before).slot)
-
-element-copy-out-e : tie.Need-element-copy-out-e
-element-copy-out-e c = omega (arith, (there c.before).slot)
-
-destinations-requires : tie.Need-destinations-requires
-destinations-requires c κs = ((there c.before.before.before.before).fits _, search rules)
-
-slice-aggregate-list : tie.Need-slice-aggregate-list
-slice-aggregate-list c = sym c.before.destinations.ensures.sound.sized.size
-
-list-requires : tie.Need-list-requires
-list-requires c κs = set_room c.before.before.destinations.ensures
-
-same_length : tie.Need-same-length
-same_length c = search rules
-
-returns-2 : tie.Need-returns-2
-unfolding claimants contents
-returns-2 c =
-    let k = c.before.before.before.before.before.before.before.before.before.before in
-    let s = k.before.before.before.before.before in
-    let a = s.args in
-    let d = c.before.before.before.before.before.destinations.ensures in
-    of_owed a.t1 s.requires (number_of a.tx) a.lent.now (claimants_of a.t1.local.0 a.r.0) 0 refl k.slot.given.0.0 _ _ _ _ _
-    (there k) (set_room d) d.holds c.before.before.list.ensures
-
-pub claimants-spec : {M : Type 1} → statement M
-claimants-spec =
+pub claimants_spec : {M : Type 1} → statement M
+claimants_spec =
     tie.close
     (tie.spec
-    slot-of-requires
-    enum-known-slot
-    enum_told
+    slot_of-requires
+    enum_known-slot
+    enum_told-1
     answer-requires
-    returns
-    mul-e
-    element-copy-out-e
-    destinations-requires
-    slice-aggregate-list
+    returns-in_default
+    offset_bounds-ledger-slot
+    bounds-ledger-slot
+    destinations-n-requires
+    slice_bounds-list-end
     list-requires
-    same_length
-    returns-2)
+    shape_of-lent
+    returns)

@@ -11,87 +11,80 @@ use Rattle.shard_lists.proofs.counterparts.Statement.{statement}
 use Rattle.shard_lists.proofs.counterparts.Tie as tie
 use Rattle.types.specs.Transactions.{number_of}
 
-there : (c : tie.After-slot) → Owed c.before.before.before.before.before.before.args.t1 (number_of c.before.before.before.before.before.before.args.tx) c.slot.given.0.0
+there : (c : tie.In-At) → Owed c.args.ledger (number_of c.args.tx) c.in-At.slot
 there c =
-    let s = c.before.before.before.before.before.before in
-    owed_in s.args.t1 s.requires (number_of s.args.tx) c.slot.given.0.0 (rw c.slot.given.1 at c.before.before.slot_of.ensures)
+    owed_in c.args.ledger c.requires (number_of c.args.tx) c.in-At.slot (rw c.in-At.is at c.slot_of.ensures)
 
 refusal-requires : tie.Need-refusal-requires
 refusal-requires c κs = search rules
 
-returns : tie.Need-returns
-returns c =
-    let s = c.before.before.before in
-    let a = s.args in
-    too_deep a.t1 s.requires (number_of a.tx) a.depth a.lent.now _ (omega arith) c.refusal.ensures
+returns-then-depth-gt32 : tie.Need-returns-then-depth-gt32
+returns-then-depth-gt32 c =
+    let a = c.args in
+    too_deep a.ledger c.requires (number_of a.tx) a.depth a.lent.now _ (omega arith) c.refusal.ensures
 
-slot-of-requires : tie.Need-slot-of-requires
-slot-of-requires c κs = search rules
+slot_of-requires : tie.Need-slot_of-requires
+slot_of-requires c κs = search rules
 
-enum-known-slot : tie.Need-enum-known-slot
-enum-known-slot c = search rules
+enum_known-slot : tie.Need-enum_known-slot
+enum_known-slot c = search rules
 
-enum_told : tie.Need-enum-told
-enum_told c = search rules
+enum_told-1 : tie.Need-enum_told-1
+enum_told-1 c = search rules
 
 answer-requires : tie.Need-answer-requires
 answer-requires c κs = search rules
 
-returns-2 : tie.Need-returns-2
-returns-2 c =
-    let s = c.before.before.before.before.before.before.before in
-    let a = s.args in
-    no_counterparts a.t1 s.requires (number_of a.tx) a.depth a.lent.now _ (omega arith) (rw c.before.enum_told.given.1 at c.before.before.before.slot_of.ensures) c.answer.ensures
+returns-in_default : tie.Need-returns-in_default
+returns-in_default c =
+    let a = c.args in
+    no_counterparts a.ledger c.requires (number_of a.tx) a.depth a.lent.now _ (omega arith) (rw c.in_default.is at c.slot_of.ensures) c.answer.ensures
 
-mul-e : tie.Need-overflow-mul-e
-mul-e c = omega (arith, (there c.before).slot)
+offset_bounds-ledger-slot : tie.Need-offset_bounds-ledger-slot
+offset_bounds-ledger-slot c = omega (arith, (there c).slot)
 
-element-copy-out-e : tie.Need-element-copy-out-e
-element-copy-out-e c = omega (arith, (there c.before).slot)
+bounds-ledger-slot : tie.Need-bounds-ledger-slot
+bounds-ledger-slot c = omega (arith, (there c).slot)
 
-cast-beyond : tie.Need-overflow-cast-beyond
-cast-beyond c = search rules
+overflow_cast-depth : tie.Need-overflow_cast-depth
+overflow_cast-depth c = search rules
 
-beyond-requires : tie.Need-beyond-requires
+beyond-n-requires : tie.Need-beyond-n-requires
 unfolding contents
-beyond-requires c κs =
-    let k = c.before.before.before.before.before in
-    let s = k.before.before.before.before.before.before in
-    ((there k).ranges _, record { sound = s.requires.departures; rising = s.requires.good.departures.rows.order; good = s.requires.good.departures.rows.each }, s.requires.good.frame.local, le-leb s.args.depth 32 (omega arith), search rules)
+beyond-n-requires c κs =
+    ((there c.before.before.before.before).fits _, record { sound = c.requires.departures; rising = c.requires.good.departures.rows.order; good = c.requires.good.departures.rows.each }, c.requires.good.frame.local, le-leb c.args.depth 32 (omega arith), search rules)
 
-slice-aggregate-list : tie.Need-slice-aggregate-list
-slice-aggregate-list c = sym c.before.beyond.ensures.sound.sized.size
+slice_bounds-list-end : tie.Need-slice_bounds-list-end
+slice_bounds-list-end c = sym c.beyond-n.ensures.sound.sized.size
 
 list-requires : tie.Need-list-requires
-list-requires c κs = set_room c.before.before.beyond.ensures
+list-requires c κs = set_room c.beyond-n.ensures
 
-same_length : tie.Need-same-length
-same_length c = search rules
+shape_of-lent : tie.Need-shape_of-lent
+shape_of-lent c = search rules
 
-returns-3 : tie.Need-returns-3
-returns-3 c =
-    let k = c.before.before.before.before.before.before.before.before.before.before.before in
-    let s = k.before.before.before.before.before.before in
-    let a = s.args in
-    of_counterparts a.t1 s.requires (number_of a.tx) a.depth a.lent.now (omega arith) k.slot.given.0.0 _ _ _ _
-    (there k) c.before.before.before.before.before.beyond.ensures c.before.before.list.ensures
+returns : tie.Need-returns
+returns c =
+    let a = c.args in
+    of_counterparts a.ledger c.requires (number_of a.tx) a.depth a.lent.now (omega arith) c.in-At.slot _ _ _ _
+    (there c.before.before.before.before.before.before.before.before.before.before) c.beyond-n.ensures c.list.ensures
 
-pub counterparts-spec : {M : Type 1} → statement M
-counterparts-spec =
+pub counterparts_spec : {M : Type 1} → statement M
+counterparts_spec =
     tie.close
     (tie.spec
     refusal-requires
-    returns
-    slot-of-requires
-    enum-known-slot
-    enum_told
+    returns-then-depth-gt32
+    slot_of-requires
+    enum_known-slot
+    enum_told-1
     answer-requires
-    returns-2
-    mul-e
-    element-copy-out-e
-    cast-beyond
-    beyond-requires
-    slice-aggregate-list
+    returns-in_default
+    offset_bounds-ledger-slot
+    bounds-ledger-slot
+    overflow_cast-depth
+    beyond-n-requires
+    slice_bounds-list-end
     list-requires
-    same_length
-    returns-3)
+    shape_of-lent
+    returns)

@@ -15,133 +15,126 @@ use borrow.Author.Rules.{rules}
 use Rattle.shard_lists.proofs.destinations.Statement.{statement}
 use Rattle.shard_lists.proofs.destinations.Tie as tie
 
-abbrev invariant-loop : tie.invariant-loop
-invariant-loop local r items₀ e n to m₀ start₀ i₀ items m start i =
+abbrev invariant-loop-i : tie.invariant-loop-i
+invariant-loop-i local r items₀ e n to m₀ start₀ i₀ items m start i =
     (i ≤ n)
     × (start ≡ total self (take i e.sizes))
     × (start ≤ 4 * i)
     × Sofar (set_of (claimed local.0 r.0 (edges_of e))) (claimed local.0 r.0 (drop i (edges_of e))) (4 * i) (made items m)
 
-abbrev decreases-loop : tie.decreases-loop
-decreases-loop local r items₀ e n to m₀ start₀ i₀ items m start i = n - i
+abbrev decreases-loop-i : tie.decreases-loop-i
+decreases-loop-i local r items₀ e n to m₀ start₀ i₀ items m start i = n - i
 
-cast-n : tie.Need-overflow-cast-n invariant-loop decreases-loop
-cast-n c = search rules
+overflow_cast-n : tie.Need-overflow_cast-n invariant-loop-i decreases-loop-i
+overflow_cast-n c = search rules
 
-loop-holds : tie.Need-loop-init invariant-loop decreases-loop
-loop-holds c = (search rules, refl, search rules, none_yet_lem _ _ _ c.before.requires.1)
+loop-i-init : tie.Need-loop-i-init invariant-loop-i decreases-loop-i
+loop-i-init c = (search rules, refl, search rules, none_yet_lem _ _ _ c.requires.1)
 
-element-copy-out-size : tie.Need-element-copy-out-size invariant-loop decreases-loop
-element-copy-out-size c = search rules
+bounds-e-i : tie.Need-bounds-e-i invariant-loop-i decreases-loop-i
+bounds-e-i c = search rules
 
-cast-size : tie.Need-overflow-cast-size invariant-loop decreases-loop
-cast-size c =
-    let l = c.before.before.loop in
-    let s = c.before.before.before.before in
-    record { fits = omega (arith, size_few s.args.t1 s.requires.0 l.i (omega arith)) }
+overflow_cast-size : tie.Need-overflow_cast-size invariant-loop-i decreases-loop-i
+overflow_cast-size c =
+    let l = c.loop-i in
+    record { fits = omega (arith, size_few c.args.e c.requires.0 l.i (omega arith)) }
 
-mul-id : tie.Need-overflow-mul-id invariant-loop decreases-loop
-mul-id c = search rules
+offset_bounds-e-i : tie.Need-offset_bounds-e-i invariant-loop-i decreases-loop-i
+offset_bounds-e-i c = search rules
 
-element-copy-out-id : tie.Need-element-copy-out-id invariant-loop decreases-loop
-element-copy-out-id c = search rules
+bounds-e-i-in-loop-i : tie.Need-bounds-e-i-in-loop-i invariant-loop-i decreases-loop-i
+bounds-e-i-in-loop-i c = search rules
 
-mul-id-2 : tie.Need-overflow-mul-id-2 invariant-loop decreases-loop
-mul-id-2 c = search rules
+offset_bounds-e-i-in-loop-i : tie.Need-offset_bounds-e-i-in-loop-i invariant-loop-i decreases-loop-i
+offset_bounds-e-i-in-loop-i c = search rules
 
-element-copy-out-id-2 : tie.Need-element-copy-out-id-2 invariant-loop decreases-loop
-element-copy-out-id-2 c = search rules
+bounds-e-i-in-loop-i-2 : tie.Need-bounds-e-i-in-loop-i-2 invariant-loop-i decreases-loop-i
+bounds-e-i-in-loop-i-2 c = search rules
 
-is-issue-requires : tie.Need-is-issue-requires invariant-loop decreases-loop
-is-issue-requires c κs = search rules
+is_issue-requires : tie.Need-is_issue-requires invariant-loop-i decreases-loop-i
+is_issue-requires c κs = search rules
 
-include-part-requires : tie.Need-include-part-requires invariant-loop decreases-loop
-include-part-requires c κs =
-    let l = c.before.before.before.before.before.before.before.loop in
-    let s = c.before.before.before.before.before.before.before.before.before in
-    let few = size_few s.args.t1 s.requires.0 l.i (omega arith) in
-    (l.invariant.3.sound, omega (arith, few, s.requires.0.edges_len), omega (arith, few, s.requires.0.edges_len, l.invariant.3.few))
+include_part-m-requires : tie.Need-include_part-m-requires invariant-loop-i decreases-loop-i
+include_part-m-requires c κs =
+    let l = c.loop-i in
+    let few = size_few c.args.e c.requires.0 l.i (omega arith) in
+    (l.invariant.3.sound, omega (arith, few, c.requires.0.edges_len), omega (arith, few, c.requires.0.edges_len, l.invariant.3.few))
 
-add_start : tie.Need-overflow-add-start invariant-loop decreases-loop
-add_start c =
-    let l = c.before.before.before.before.before.before.before.before.loop in
-    let s = c.before.before.before.before.before.before.before.before.before.before in
-    omega (arith, size_few s.args.t1 s.requires.0 l.i (omega arith), s.requires.0.edges_len)
+overflow_add-start : tie.Need-overflow_add-start invariant-loop-i decreases-loop-i
+overflow_add-start c =
+    let l = c.loop-i in
+    omega (arith, size_few c.args.e c.requires.0 l.i (omega arith), c.requires.0.edges_len)
 
-add-i : tie.Need-overflow-add-i invariant-loop decreases-loop
-add-i c = search rules
+overflow_add-i : tie.Need-overflow_add-i invariant-loop-i decreases-loop-i
+overflow_add-i c = search rules
 
-loop-less : tie.Need-loop-smaller invariant-loop decreases-loop
-loop-less c = search rules
+loop-i-smaller-then-is_issue : tie.Need-loop-i-smaller-then-is_issue invariant-loop-i decreases-loop-i
+loop-i-smaller-then-is_issue c = search rules
 
-loop-again : tie.Need-loop-preserved invariant-loop decreases-loop
-loop-again c =
-    let l = c.before.before.before.before.before.before.before.before.loop in
-    let s = c.before.before.before.before.before.before.before.before.before.before in
-    let e = s.args.t1 in
+loop-i-preserved-then-is_issue : tie.Need-loop-i-preserved-then-is_issue invariant-loop-i decreases-loop-i
+loop-i-preserved-then-is_issue c =
+    let l = c.loop-i in
+    let e = c.args.e in
     let size = get_or e.sizes l.i 0 in
-    let few = size_few e s.requires.0 l.i (omega arith) in
-    let hit = sym c.before.before.before.is-issue.ensures ∙ c.before.before.if1.true in (
+    let few = size_few e c.requires.0 l.i (omega arith) in
+    let hit = sym c.is_issue.ensures ∙ c.if-is_issue.true in (
       search rules,
-      omega (arith, l.invariant.1, total-next e.sizes l.i (omega (arith, s.requires.0.edges_len, s.requires.0.sizes))),
+      omega (arith, l.invariant.1, total-next e.sizes l.i (omega (arith, c.requires.0.edges_len, c.requires.0.sizes))),
       omega (arith, few),
-      put_all (part l.start size e.to) _ _ _ _ (claim_in e s.requires.0 s.args.local.0 s.args.r.0 l.i l.start (omega arith) l.invariant.1 hit)
-          (omega (arith, few, length_part l.start size e.to)) l.invariant.3 c.include-part.ensures,
+      put_all (part l.start size e.to) _ _ _ _ (claim_in e c.requires.0 c.args.local.0 c.args.r.0 l.i l.start (omega arith) l.invariant.1 hit)
+          (omega (arith, few, length_part l.start size e.to)) l.invariant.3 c.include_part-m.ensures,
     )
 
-add-start-2 : tie.Need-overflow-add-start-2 invariant-loop decreases-loop
-add-start-2 c =
-    let l = c.before.before.before.before.before.before.loop in
-    let s = c.before.before.before.before.before.before.before.before in
-    omega (arith, size_few s.args.t1 s.requires.0 l.i (omega arith), s.requires.0.edges_len)
+overflow_add-start-else-is_issue : tie.Need-overflow_add-start-else-is_issue invariant-loop-i decreases-loop-i
+overflow_add-start-else-is_issue c =
+    let l = c.loop-i in
+    omega (arith, size_few c.args.e c.requires.0 l.i (omega arith), c.requires.0.edges_len)
 
-add-i-2 : tie.Need-overflow-add-i-2 invariant-loop decreases-loop
-add-i-2 c = search rules
+overflow_add-i-else-is_issue : tie.Need-overflow_add-i-else-is_issue invariant-loop-i decreases-loop-i
+overflow_add-i-else-is_issue c = search rules
 
-loop-less-2 : tie.Need-loop-smaller-2 invariant-loop decreases-loop
-loop-less-2 c = search rules
+loop-i-smaller : tie.Need-loop-i-smaller invariant-loop-i decreases-loop-i
+loop-i-smaller c = search rules
 
-loop-again-2 : tie.Need-loop-preserved-2 invariant-loop decreases-loop
-loop-again-2 c =
-    let l = c.before.before.before.before.before.before.loop in
-    let s = c.before.before.before.before.before.before.before.before in
-    let e = s.args.t1 in
-    let few = size_few e s.requires.0 l.i (omega arith) in
-    let miss = sym c.before.is-issue.ensures ∙ c.if1.false in (
+loop-i-preserved : tie.Need-loop-i-preserved invariant-loop-i decreases-loop-i
+loop-i-preserved c =
+    let l = c.loop-i in
+    let e = c.args.e in
+    let few = size_few e c.requires.0 l.i (omega arith) in
+    let miss = sym c.is_issue.ensures ∙ c.if-is_issue.false in (
       search rules,
-      omega (arith, l.invariant.1, total-next e.sizes l.i (omega (arith, s.requires.0.edges_len, s.requires.0.sizes))),
+      omega (arith, l.invariant.1, total-next e.sizes l.i (omega (arith, c.requires.0.edges_len, c.requires.0.sizes))),
       omega (arith, few),
-      passed_by _ _ _ (claim_out e s.requires.0 s.args.local.0 s.args.r.0 l.i (omega arith) miss) (omega arith) l.invariant.3,
+      passed_by _ _ _ (claim_out e c.requires.0 c.args.local.0 c.args.r.0 l.i (omega arith) miss) (omega arith) l.invariant.3,
     )
 
-returns : tie.Need-returns invariant-loop decreases-loop
+returns : tie.Need-returns invariant-loop-i decreases-loop-i
 returns c =
-    let l = c.before.loop in
-    let s = c.before.before.before in
-    claimed_all s.args.t1 s.requires.0 s.args.local.0 s.args.r.0 l.i (omega arith) l.invariant.3
+    let l = c.loop-i in
+    claimed_all c.args.e c.requires.0 c.args.local.0 c.args.r.0 l.i (omega arith) l.invariant.3
 
-pub destinations-spec : {M : Type 1} → statement M
-destinations-spec =
+pub destinations_spec : {M : Type 1} → statement M
+destinations_spec =
     tie.close
     (tie.spec
-    invariant-loop
-    decreases-loop
-    cast-n
-    loop-holds
-    element-copy-out-size
-    cast-size
-    mul-id
-    element-copy-out-id
-    mul-id-2
-    element-copy-out-id-2
-    is-issue-requires
-    include-part-requires
-    add_start
-    add-i
-    loop-less
-    loop-again
-    add-start-2
-    add-i-2
-    loop-less-2
-    loop-again-2
+    invariant-loop-i
+    decreases-loop-i
+    overflow_cast-n
+    loop-i-init
+    bounds-e-i
+    overflow_cast-size
+    offset_bounds-e-i
+    bounds-e-i-in-loop-i
+    offset_bounds-e-i-in-loop-i
+    bounds-e-i-in-loop-i-2
+    is_issue-requires
+    include_part-m-requires
+    overflow_add-start
+    overflow_add-i
+    loop-i-smaller-then-is_issue
+    loop-i-preserved-then-is_issue
+    overflow_add-start-else-is_issue
+    overflow_add-i-else-is_issue
+    loop-i-smaller
+    loop-i-preserved
     returns)

@@ -12,22 +12,22 @@ use borrow.Author.Rules.{rules}
 use Rattle.shard_lists.proofs.is_over.Statement.{statement}
 use Rattle.shard_lists.proofs.is_over.Tie as tie
 
-owns-some-requires : tie.Need-owns-some-requires
-owns-some-requires c κs = search rules
+owns_some-requires : tie.Need-owns_some-requires
+owns_some-requires c κs = search rules
 
-returns : tie.Need-returns
-returns c =
-    let a = c.before.before.before.before.args in
+returns-then-anchor-d : tie.Need-returns-then-anchor-d
+returns-then-anchor-d c =
+    let a = c.args in
     let far = take a.n a.far.now in
-    let cut = lt-ltb a.anchor.0 a.d.cut.0 c.before.if1.true in
-    c.owns-some.ensures ∙ sym (any_and (owns a.d.shard.0) (ltb a.anchor.0 a.d.cut.0) far ∙ rw cut (and_true (any (owns a.d.shard.0) far)))
+    let cut = lt-ltb a.anchor.0 a.d.cut.0 c.if-anchor-d.true in
+    c.owns_some.ensures ∙ sym (any_and (owns a.d.shard.0) (ltb a.anchor.0 a.d.cut.0) far ∙ rw cut (and_true (any (owns a.d.shard.0) far)))
 
-returns-2 : tie.Need-returns-2
-returns-2 c =
-    let a = c.before.before.before.args in
+returns-else-anchor-d : tie.Need-returns-else-anchor-d
+returns-else-anchor-d c =
+    let a = c.args in
     let far = take a.n a.far.now in
-    let cut = le-ltb a.anchor.0 a.d.cut.0 c.if1.false in
+    let cut = le-ltb a.anchor.0 a.d.cut.0 c.if-anchor-d.false in
     cut ∙ sym (any_and (owns a.d.shard.0) (ltb a.anchor.0 a.d.cut.0) far ∙ rw cut (and_false (any (owns a.d.shard.0) far)))
 
-pub is-over-spec : {M : Type 1} → statement M
-is-over-spec = tie.close (tie.spec owns-some-requires returns returns-2)
+pub is_over_spec : {M : Type 1} → statement M
+is_over_spec = tie.close (tie.spec owns_some-requires returns-then-anchor-d returns-else-anchor-d)

@@ -11,62 +11,59 @@ use borrow.Author.Rules.{rules}
 use Rattle.shard_lists.proofs.owns_some.Statement.{statement}
 use Rattle.shard_lists.proofs.owns_some.Tie as tie
 
-abbrev invariant-loop : tie.invariant-loop
-invariant-loop shard far n i₀ i = (i ≤ n) × (any (owns shard.0) (drop i (take n far)) ≡ any (owns shard.0) (take n far))
+abbrev invariant-loop-i : tie.invariant-loop-i
+invariant-loop-i shard far n i₀ i = (i ≤ n) × (any (owns shard.0) (drop i (take n far)) ≡ any (owns shard.0) (take n far))
 
-abbrev decreases-loop : tie.decreases-loop
-decreases-loop shard far n i₀ i = n - i
+abbrev decreases-loop-i : tie.decreases-loop-i
+decreases-loop-i shard far n i₀ i = n - i
 
-loop-holds : tie.Need-loop-init invariant-loop decreases-loop
-loop-holds c = search rules
+loop-i-init : tie.Need-loop-i-init invariant-loop-i decreases-loop-i
+loop-i-init c = search rules
 
-mul-owns : tie.Need-overflow-mul-owns invariant-loop decreases-loop
-mul-owns c = search rules
+offset_bounds-far-i : tie.Need-offset_bounds-far-i invariant-loop-i decreases-loop-i
+offset_bounds-far-i c = search rules
 
-element-copy-out-owns : tie.Need-element-copy-out-owns invariant-loop decreases-loop
-element-copy-out-owns c = search rules
+bounds-far-i : tie.Need-bounds-far-i invariant-loop-i decreases-loop-i
+bounds-far-i c = search rules
 
-owns-requires : tie.Need-owns-requires invariant-loop decreases-loop
+owns-requires : tie.Need-owns-requires invariant-loop-i decreases-loop-i
 owns-requires c κs = search rules
 
-returns : tie.Need-returns invariant-loop decreases-loop
+returns-then-owns : tie.Need-returns-then-owns invariant-loop-i decreases-loop-i
+returns-then-owns c =
+    let l = c.loop-i in
+    let hit = sym c.owns.ensures ∙ c.if-owns.true in
+    sym (any_hit (owns c.args.shard.0) _ c.args.far.now l.i c.args.n (omega arith) (omega arith) hit) ∙ l.invariant.1
+
+overflow_add-i : tie.Need-overflow_add-i invariant-loop-i decreases-loop-i
+overflow_add-i c = search rules
+
+loop-i-smaller : tie.Need-loop-i-smaller invariant-loop-i decreases-loop-i
+loop-i-smaller c = search rules
+
+loop-i-preserved : tie.Need-loop-i-preserved invariant-loop-i decreases-loop-i
+loop-i-preserved c =
+    let l = c.loop-i in
+    let miss = sym c.owns.ensures ∙ c.if-owns.false in
+    (search rules, any_miss (owns c.args.shard.0) _ c.args.far.now l.i c.args.n (omega arith) (omega arith) miss ∙ l.invariant.1)
+
+returns : tie.Need-returns invariant-loop-i decreases-loop-i
 returns c =
-    let l = c.before.before.before.before.loop in
-    let s = c.before.before.before.before.before in
-    let hit = sym c.before.owns.ensures ∙ c.if1.true in
-    sym (any_hit (owns s.args.shard.0) _ s.args.far.now l.i s.args.n (omega arith) (omega arith) hit) ∙ l.invariant.1
+    let l = c.loop-i in
+    sym (any-end (owns c.args.shard.0) c.args.far.now l.i c.args.n (omega arith) (omega arith)) ∙ l.invariant.1
 
-add-i : tie.Need-overflow-add-i invariant-loop decreases-loop
-add-i c = search rules
-
-loop-less : tie.Need-loop-smaller invariant-loop decreases-loop
-loop-less c = search rules
-
-loop-again : tie.Need-loop-preserved invariant-loop decreases-loop
-loop-again c =
-    let l = c.before.before.before.before.loop in
-    let s = c.before.before.before.before.before in
-    let miss = sym c.before.owns.ensures ∙ c.if1.false in
-    (search rules, any_miss (owns s.args.shard.0) _ s.args.far.now l.i s.args.n (omega arith) (omega arith) miss ∙ l.invariant.1)
-
-returns-2 : tie.Need-returns-2 invariant-loop decreases-loop
-returns-2 c =
-    let l = c.before.loop in
-    let s = c.before.before in
-    sym (any-end (owns s.args.shard.0) s.args.far.now l.i s.args.n (omega arith) (omega arith)) ∙ l.invariant.1
-
-pub owns-some-spec : {M : Type 1} → statement M
-owns-some-spec =
+pub owns_some_spec : {M : Type 1} → statement M
+owns_some_spec =
     tie.close
     (tie.spec
-    invariant-loop
-    decreases-loop
-    loop-holds
-    mul-owns
-    element-copy-out-owns
+    invariant-loop-i
+    decreases-loop-i
+    loop-i-init
+    offset_bounds-far-i
+    bounds-far-i
     owns-requires
-    returns
-    add-i
-    loop-less
-    loop-again
-    returns-2)
+    returns-then-owns
+    overflow_add-i
+    loop-i-smaller
+    loop-i-preserved
+    returns)

@@ -11,67 +11,63 @@ use borrow.Author.Rules.{rules}
 use Rattle.shard_lists.proofs.reach.Statement.{statement}
 use Rattle.shard_lists.proofs.reach.Tie as tie
 
-there : (c : tie.After-slot) → Owed c.before.before.before.before.before.args.t1 (number_of c.before.before.before.before.before.args.tx) c.slot.given.0.0
+there : (c : tie.In-At) → Owed c.args.ledger (number_of c.args.tx) c.in-At.slot
 there c =
-    let s = c.before.before.before.before.before in
-    owed_in s.args.t1 s.requires (number_of s.args.tx) c.slot.given.0.0 (rw c.slot.given.1 at c.before.before.slot_of.ensures)
+    owed_in c.args.ledger c.requires (number_of c.args.tx) c.in-At.slot (rw c.in-At.is at c.slot_of.ensures)
 
-slot-of-requires : tie.Need-slot-of-requires
-slot-of-requires c κs = search rules
+slot_of-requires : tie.Need-slot_of-requires
+slot_of-requires c κs = search rules
 
-enum-known-slot : tie.Need-enum-known-slot
-enum-known-slot c = search rules
+enum_known-slot : tie.Need-enum_known-slot
+enum_known-slot c = search rules
 
-enum_told : tie.Need-enum-told
-enum_told c = search rules
+enum_told-1 : tie.Need-enum_told-1
+enum_told-1 c = search rules
 
 answer-requires : tie.Need-answer-requires
 answer-requires c κs = search rules
 
-returns : tie.Need-returns
-returns c =
-    let s = c.before.before.before.before.before.before in
-    not-owed s.args.t1 s.requires (number_of s.args.tx) s.args.lent.now (λ (e : plain.Entry). e.terms.routes) 0 refl _ (rw c.before.enum_told.given.1 at c.before.before.before.slot_of.ensures) c.answer.ensures
+returns-in_default : tie.Need-returns-in_default
+returns-in_default c =
+    not-owed c.args.ledger c.requires (number_of c.args.tx) c.args.lent.now (λ (e : plain.Entry). e.terms.routes) 0 refl _ (rw c.in_default.is at c.slot_of.ensures) c.answer.ensures
 
-mul-e : tie.Need-overflow-mul-e
-mul-e c = omega (arith, (there c.before).slot)
+offset_bounds-ledger-slot : tie.Need-offset_bounds-ledger-slot
+offset_bounds-ledger-slot c = omega (arith, (there c).slot)
 
-element-copy-out-e : tie.Need-element-copy-out-e
-element-copy-out-e c = omega (arith, (there c.before).slot)
+bounds-ledger-slot : tie.Need-bounds-ledger-slot
+bounds-ledger-slot c = omega (arith, (there c).slot)
 
-cast-n : tie.Need-overflow-cast-n
-cast-n c = search rules
+overflow_cast-n : tie.Need-overflow_cast-n
+overflow_cast-n c = search rules
 
-slice-aggregate-list : tie.Need-slice-aggregate-list
-slice-aggregate-list c = sym ((there c.before.before.before.before.before).fits _).routes
+slice_bounds-list-end : tie.Need-slice_bounds-list-end
+slice_bounds-list-end c = sym ((there c.before.before.before.before).fits _).routes
 
 list-requires : tie.Need-list-requires
-list-requires c κs = routes-room ((there c.before.before.before.before.before.before).fits _)
+list-requires c κs = routes-room ((there c.before.before.before.before.before).fits _)
 
-same_length : tie.Need-same-length
-same_length c = search rules
+shape_of-lent : tie.Need-shape_of-lent
+shape_of-lent c = search rules
 
-returns-2 : tie.Need-returns-2
+returns : tie.Need-returns
 unfolding plain_entry
-returns-2 c =
-    let k = c.before.before.before.before.before.before.before.before.before in
-    let s = k.before.before.before.before.before in
-    of_owed s.args.t1 s.requires (number_of s.args.tx) s.args.lent.now (λ (e : plain.Entry). e.terms.routes) 0 refl k.slot.given.0.0 _ _ _ _ _
-    (there k) (routes-room ((there k).ranges _)) refl c.before.before.list.ensures
+returns c =
+    of_owed c.args.ledger c.requires (number_of c.args.tx) c.args.lent.now (λ (e : plain.Entry). e.terms.routes) 0 refl c.in-At.slot _ _ _ _ _
+    (there c.before.before.before.before.before.before.before.before) (routes-room ((there c.before.before.before.before.before.before.before.before).fits _)) refl c.list.ensures
 
-pub reach-spec : {M : Type 1} → statement M
-reach-spec =
+pub reach_spec : {M : Type 1} → statement M
+reach_spec =
     tie.close
     (tie.spec
-    slot-of-requires
-    enum-known-slot
-    enum_told
+    slot_of-requires
+    enum_known-slot
+    enum_told-1
     answer-requires
-    returns
-    mul-e
-    element-copy-out-e
-    cast-n
-    slice-aggregate-list
+    returns-in_default
+    offset_bounds-ledger-slot
+    bounds-ledger-slot
+    overflow_cast-n
+    slice_bounds-list-end
     list-requires
-    same_length
-    returns-2)
+    shape_of-lent
+    returns)

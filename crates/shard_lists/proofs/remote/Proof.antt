@@ -14,90 +14,87 @@ use borrow.Author.Rules.{rules}
 use Rattle.shard_lists.proofs.remote.Statement.{statement}
 use Rattle.shard_lists.proofs.remote.Tie as tie
 
-abbrev invariant-loop : tie.invariant-loop
-invariant-loop n local far₀ routes m₀ i₀ far m i =
+abbrev invariant-loop-i : tie.invariant-loop-i
+invariant-loop-i n local far₀ routes m₀ i₀ far m i =
     (i ≤ n) × (m ≤ i) × Written 8 (keep (is_remote local.0) (take n routes)) (keep (is_remote local.0) (drop i (take n routes))) (made far m)
 
-abbrev decreases-loop : tie.decreases-loop
-decreases-loop n local far₀ routes m₀ i₀ far m i = n - i
+abbrev decreases-loop-i : tie.decreases-loop-i
+decreases-loop-i n local far₀ routes m₀ i₀ far m i = n - i
 
-loop-holds : tie.Need-loop-init invariant-loop decreases-loop
-loop-holds c = (search rules, search rules, unwritten _ _ _ c.requires.2)
+loop-i-init : tie.Need-loop-i-init invariant-loop-i decreases-loop-i
+loop-i-init c = (search rules, search rules, unwritten _ _ _ c.requires.2)
 
-mul-route : tie.Need-overflow-mul-route invariant-loop decreases-loop
-mul-route c = search rules
+offset_bounds-routes-i : tie.Need-offset_bounds-routes-i invariant-loop-i decreases-loop-i
+offset_bounds-routes-i c = search rules
 
-array-read-route : tie.Need-array-read-route invariant-loop decreases-loop
-array-read-route c = search rules
+bounds-routes-i : tie.Need-bounds-routes-i invariant-loop-i decreases-loop-i
+bounds-routes-i c = search rules
 
-owns-requires : tie.Need-owns-requires invariant-loop decreases-loop
+owns-requires : tie.Need-owns-requires invariant-loop-i decreases-loop-i
 owns-requires c κs = search rules
 
-add-i : tie.Need-overflow-add-i invariant-loop decreases-loop
-add-i c = search rules
+overflow_add-i : tie.Need-overflow_add-i invariant-loop-i decreases-loop-i
+overflow_add-i c = search rules
 
-loop-less : tie.Need-loop-smaller invariant-loop decreases-loop
-loop-less c = search rules
+loop-i-smaller-then-owns : tie.Need-loop-i-smaller-then-owns invariant-loop-i decreases-loop-i
+loop-i-smaller-then-owns c = search rules
 
-loop-again : tie.Need-loop-preserved invariant-loop decreases-loop
-loop-again c =
-    let l = c.before.before.before.loop in
-    let s = c.before.before.before.before in
-    let own = sym c.before.owns.ensures ∙ c.if1.true in
-    let h : length s.args.t1 ≡ 8 = search rules in
-    (search rules, search rules, left_out _ _ (far_out s.args.t1 s.args.n s.args.local.0 (omega arith) l.i (omega arith) own) l.invariant.2)
+loop-i-preserved-then-owns : tie.Need-loop-i-preserved-then-owns invariant-loop-i decreases-loop-i
+loop-i-preserved-then-owns c =
+    let l = c.loop-i in
+    let own = sym c.owns.ensures ∙ c.if-owns.true in
+    let h : length c.args.routes ≡ 8 = search rules in
+    (search rules, search rules, left_out _ _ (far_out c.args.routes c.args.n c.args.local.0 (omega arith) l.i (omega arith) own) l.invariant.2)
 
-mul-far : tie.Need-overflow-mul-far invariant-loop decreases-loop
-mul-far c = search rules
+offset_bounds-far-m : tie.Need-offset_bounds-far-m invariant-loop-i decreases-loop-i
+offset_bounds-far-m c = search rules
 
-element-write-far : tie.Need-element-write-far invariant-loop decreases-loop
-element-write-far c = search rules
+bounds-far-m : tie.Need-bounds-far-m invariant-loop-i decreases-loop-i
+bounds-far-m c = search rules
 
-add-m : tie.Need-overflow-add-m invariant-loop decreases-loop
-add-m c = search rules
+overflow_add-m : tie.Need-overflow_add-m invariant-loop-i decreases-loop-i
+overflow_add-m c = search rules
 
-add-i-2 : tie.Need-overflow-add-i-2 invariant-loop decreases-loop
-add-i-2 c = search rules
+overflow_add-i-else-owns : tie.Need-overflow_add-i-else-owns invariant-loop-i decreases-loop-i
+overflow_add-i-else-owns c = search rules
 
-loop-less-2 : tie.Need-loop-smaller-2 invariant-loop decreases-loop
-loop-less-2 c = search rules
+loop-i-smaller : tie.Need-loop-i-smaller invariant-loop-i decreases-loop-i
+loop-i-smaller c = search rules
 
-loop-again-2 : tie.Need-loop-preserved-2 invariant-loop decreases-loop
-loop-again-2 c =
-    let l = c.before.before.before.loop in
-    let s = c.before.before.before.before in
-    let far = sym c.before.owns.ensures ∙ c.if1.false in
-    let h : length s.args.t1 ≡ 8 = search rules in
-    (search rules, search rules, put-behind _ _ _ _ _ (far_in s.args.t1 s.args.n s.args.local.0 (omega arith) l.i (omega arith) far) (omega arith) l.invariant.2)
+loop-i-preserved : tie.Need-loop-i-preserved invariant-loop-i decreases-loop-i
+loop-i-preserved c =
+    let l = c.loop-i in
+    let far = sym c.owns.ensures ∙ c.if-owns.false in
+    let h : length c.args.routes ≡ 8 = search rules in
+    (search rules, search rules, put-behind _ _ _ _ _ (far_in c.args.routes c.args.n c.args.local.0 (omega arith) l.i (omega arith) far) (omega arith) l.invariant.2)
 
-returns : tie.Need-returns invariant-loop decreases-loop
+returns : tie.Need-returns invariant-loop-i decreases-loop-i
 returns c =
-    let l = c.before.loop in
-    let s = c.before.before in
-    let h : length s.args.t1 ≡ 8 = search rules in
+    let l = c.loop-i in
+    let h : length c.args.routes ≡ 8 = search rules in
     record {
       few = omega arith;
       size = l.invariant.2.size;
-      holds = written_out _ (ap (keep (is_remote s.args.local.0)) (rest_end s.args.t1 l.i s.args.n (omega arith) (omega arith))) l.invariant.2;
+      holds = written_out _ (ap (keep (is_remote c.args.local.0)) (rest_end c.args.routes l.i c.args.n (omega arith) (omega arith))) l.invariant.2;
     }
 
-pub remote-spec : {M : Type 1} → statement M
-remote-spec =
+pub remote_spec : {M : Type 1} → statement M
+remote_spec =
     tie.close
     (tie.spec
-    invariant-loop
-    decreases-loop
-    loop-holds
-    mul-route
-    array-read-route
+    invariant-loop-i
+    decreases-loop-i
+    loop-i-init
+    offset_bounds-routes-i
+    bounds-routes-i
     owns-requires
-    add-i
-    loop-less
-    loop-again
-    mul-far
-    element-write-far
-    add-m
-    add-i-2
-    loop-less-2
-    loop-again-2
+    overflow_add-i
+    loop-i-smaller-then-owns
+    loop-i-preserved-then-owns
+    offset_bounds-far-m
+    bounds-far-m
+    overflow_add-m
+    overflow_add-i-else-owns
+    loop-i-smaller
+    loop-i-preserved
     returns)

@@ -11,76 +11,73 @@ use borrow.Author.Rules.{rules}
 use Rattle.shard_lists.proofs.unstamped.Statement.{statement}
 use Rattle.shard_lists.proofs.unstamped.Tie as tie
 
-abbrev invariant-loop : tie.invariant-loop
-invariant-loop items₀ filed n m₀ i₀ items m i = (i ≤ n) × (m ≤ i) × Written 40 (unstamped_on (on_file filed)) (unstamped_on (drop i (on_file filed))) (made items m)
+abbrev invariant-loop-i : tie.invariant-loop-i
+invariant-loop-i items₀ filed n m₀ i₀ items m i = (i ≤ n) × (m ≤ i) × Written 40 (unstamped_on (on_file filed)) (unstamped_on (drop i (on_file filed))) (made items m)
 
-abbrev decreases-loop : tie.decreases-loop
-decreases-loop items₀ filed n m₀ i₀ items m i = n - i
+abbrev decreases-loop-i : tie.decreases-loop-i
+decreases-loop-i items₀ filed n m₀ i₀ items m i = n - i
 
-loop-holds : tie.Need-loop-init invariant-loop decreases-loop
-loop-holds c = (search rules, search rules, unwritten _ _ _ c.requires.2)
+loop-i-init : tie.Need-loop-i-init invariant-loop-i decreases-loop-i
+loop-i-init c = (search rules, search rules, unwritten _ _ _ c.requires.2)
 
-mul-d : tie.Need-overflow-mul-d invariant-loop decreases-loop
-mul-d c = search rules
+offset_bounds-filed-i : tie.Need-offset_bounds-filed-i invariant-loop-i decreases-loop-i
+offset_bounds-filed-i c = search rules
 
-element-copy-out-d : tie.Need-element-copy-out-d invariant-loop decreases-loop
-element-copy-out-d c = search rules
+bounds-filed-i : tie.Need-bounds-filed-i invariant-loop-i decreases-loop-i
+bounds-filed-i c = search rules
 
-add-i : tie.Need-overflow-add-i invariant-loop decreases-loop
-add-i c = search rules
+overflow_add-i : tie.Need-overflow_add-i invariant-loop-i decreases-loop-i
+overflow_add-i c = search rules
 
-loop-less : tie.Need-loop-smaller invariant-loop decreases-loop
-loop-less c = search rules
+loop-i-smaller-then-d : tie.Need-loop-i-smaller-then-d invariant-loop-i decreases-loop-i
+loop-i-smaller-then-d c = search rules
 
-loop-again : tie.Need-loop-preserved invariant-loop decreases-loop
-loop-again c =
-    let l = c.before.before.before.loop in
-    let s = c.before.before.before.before in
-    (search rules, search rules, left_out _ _ (stamped_out s.args.t1 s.requires.0 _ l.i (omega arith) c.if1.true) l.invariant.2)
+loop-i-preserved-then-d : tie.Need-loop-i-preserved-then-d invariant-loop-i decreases-loop-i
+loop-i-preserved-then-d c =
+    let l = c.loop-i in
+    (search rules, search rules, left_out _ _ (stamped_out c.args.filed c.requires.0 _ l.i (omega arith) c.if-d.true) l.invariant.2)
 
-mul-items : tie.Need-overflow-mul-items invariant-loop decreases-loop
-mul-items c = search rules
+offset_bounds-items-m : tie.Need-offset_bounds-items-m invariant-loop-i decreases-loop-i
+offset_bounds-items-m c = search rules
 
-element-write-items : tie.Need-element-write-items invariant-loop decreases-loop
-element-write-items c = omega (arith, c.before.before.before.before.requires.0.room)
+bounds-items-m : tie.Need-bounds-items-m invariant-loop-i decreases-loop-i
+bounds-items-m c = omega (arith, c.requires.0.room)
 
-add-m : tie.Need-overflow-add-m invariant-loop decreases-loop
-add-m c = search rules
+overflow_add-m : tie.Need-overflow_add-m invariant-loop-i decreases-loop-i
+overflow_add-m c = search rules
 
-add-i-2 : tie.Need-overflow-add-i-2 invariant-loop decreases-loop
-add-i-2 c = search rules
+overflow_add-i-else-d : tie.Need-overflow_add-i-else-d invariant-loop-i decreases-loop-i
+overflow_add-i-else-d c = search rules
 
-loop-less-2 : tie.Need-loop-smaller-2 invariant-loop decreases-loop
-loop-less-2 c = search rules
+loop-i-smaller : tie.Need-loop-i-smaller invariant-loop-i decreases-loop-i
+loop-i-smaller c = search rules
 
-loop-again-2 : tie.Need-loop-preserved-2 invariant-loop decreases-loop
-loop-again-2 c =
-    let l = c.before.before.before.loop in
-    let s = c.before.before.before.before in
-    (search rules, search rules, put-behind _ _ _ _ _ (unstamped_in s.args.t1 s.requires.0 _ l.i (omega arith) c.if1.false) (omega (arith, s.requires.0.room)) l.invariant.2)
+loop-i-preserved : tie.Need-loop-i-preserved invariant-loop-i decreases-loop-i
+loop-i-preserved c =
+    let l = c.loop-i in
+    (search rules, search rules, put-behind _ _ _ _ _ (unstamped_in c.args.filed c.requires.0 _ l.i (omega arith) c.if-d.false) (omega (arith, c.requires.0.room)) l.invariant.2)
 
-returns : tie.Need-returns invariant-loop decreases-loop
+returns : tie.Need-returns invariant-loop-i decreases-loop-i
 returns c =
-    let l = c.before.loop in
-    let s = c.before.before in
-    all_picked s.args.t1 s.requires.0 lacks_stamp s.requires.1 l.i (omega arith) (omega (arith, s.requires.0.room)) l.invariant.2
+    let l = c.loop-i in
+    all_picked c.args.filed c.requires.0 lacks_stamp c.requires.1 l.i (omega arith) (omega (arith, c.requires.0.room)) l.invariant.2
 
-pub unstamped-spec : {M : Type 1} → statement M
-unstamped-spec =
+pub unstamped_spec : {M : Type 1} → statement M
+unstamped_spec =
     tie.close
     (tie.spec
-    invariant-loop
-    decreases-loop
-    loop-holds
-    mul-d
-    element-copy-out-d
-    add-i
-    loop-less
-    loop-again
-    mul-items
-    element-write-items
-    add-m
-    add-i-2
-    loop-less-2
-    loop-again-2
+    invariant-loop-i
+    decreases-loop-i
+    loop-i-init
+    offset_bounds-filed-i
+    bounds-filed-i
+    overflow_add-i
+    loop-i-smaller-then-d
+    loop-i-preserved-then-d
+    offset_bounds-items-m
+    bounds-items-m
+    overflow_add-m
+    overflow_add-i-else-d
+    loop-i-smaller
+    loop-i-preserved
     returns)

@@ -7,27 +7,25 @@ use borrow.Author.Rules.{rules}
 use Rattle.shard_lists.proofs.unstamped_departures.Statement.{statement}
 use Rattle.shard_lists.proofs.unstamped_departures.Tie as tie
 
-unstamped-requires : tie.Need-unstamped-requires
+unstamped-n-requires : tie.Need-unstamped-n-requires
 unfolding contents
-unstamped-requires c κs =
-    let s = c.before.before.before in
-    (s.requires.departures, s.requires.good.departures.rows.order, search rules)
+unstamped-n-requires c κs =
+    (c.requires.departures, c.requires.good.departures.rows.order, search rules)
 
-slice-aggregate-list : tie.Need-slice-aggregate-list
-slice-aggregate-list c = sym c.before.unstamped.ensures.sound.sized.size
+slice_bounds-list-end : tie.Need-slice_bounds-list-end
+slice_bounds-list-end c = sym c.unstamped-n.ensures.sound.sized.size
 
 list-requires : tie.Need-list-requires
 list-requires c κs =
-    set_room c.before.before.unstamped.ensures
+    set_room c.unstamped-n.ensures
 
-same_length : tie.Need-same-length
-same_length c = search rules
+shape_of-lent : tie.Need-shape_of-lent
+shape_of-lent c = search rules
 
 returns : tie.Need-returns
 returns c =
-    let s = c.before.before.before.before.before.before.before.before.before in
-    of_departures s.args.ledger _ s.args.lent.now _ _ c.before.before.before.before.before.unstamped.ensures c.before.before.list.ensures
+    of_departures c.args.ledger _ c.args.lent.now _ _ c.unstamped-n.ensures c.list.ensures
 
-pub unstamped-departures-spec : {M : Type 1} → statement M
-unstamped-departures-spec =
-    tie.close (tie.spec unstamped-requires slice-aggregate-list list-requires same_length returns)
+pub unstamped_departures_spec : {M : Type 1} → statement M
+unstamped_departures_spec =
+    tie.close (tie.spec unstamped-n-requires slice_bounds-list-end list-requires shape_of-lent returns)

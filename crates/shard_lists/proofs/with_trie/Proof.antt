@@ -14,63 +14,63 @@ use borrow.Author.Rules.{rules}
 use Rattle.shard_lists.proofs.with_trie.Statement.{statement}
 use Rattle.shard_lists.proofs.with_trie.Tie as tie
 
-abbrev invariant-loop : tie.invariant-loop
-invariant-loop items₀ len far n d m₀ i₀ items m i =
+abbrev invariant-loop-i : tie.invariant-loop-i
+invariant-loop-i items₀ len far n d m₀ i₀ items m i =
     (i ≤ n)
     × Sofar (include_all self (map (shard_for_route d) (take n far)) (front (made items₀ len))) (map (shard_for_route d) (drop i (take n far))) (len + i) (made items m)
 
-abbrev decreases-loop : tie.decreases-loop
-decreases-loop items₀ len far n d m₀ i₀ items m i = n - i
+abbrev decreases-loop-i : tie.decreases-loop-i
+decreases-loop-i items₀ len far n d m₀ i₀ items m i = n - i
 
-loop-holds : tie.Need-loop-init invariant-loop decreases-loop
-loop-holds c = (search rules, begun _ _ _ (omega arith) c.requires.0)
+loop-i-init : tie.Need-loop-i-init invariant-loop-i decreases-loop-i
+loop-i-init c = (search rules, begun _ _ _ (omega arith) c.requires.0)
 
-mul-shard-for-route : tie.Need-overflow-mul-shard-for-route invariant-loop decreases-loop
-mul-shard-for-route c = search rules
+offset_bounds-far-i : tie.Need-offset_bounds-far-i invariant-loop-i decreases-loop-i
+offset_bounds-far-i c = search rules
 
-element-copy-out-shard-for-route : tie.Need-element-copy-out-shard-for-route invariant-loop decreases-loop
-element-copy-out-shard-for-route c = search rules
+bounds-far-i : tie.Need-bounds-far-i invariant-loop-i decreases-loop-i
+bounds-far-i c = search rules
 
-shard-for-route-requires : tie.Need-shard-for-route-requires invariant-loop decreases-loop
-shard-for-route-requires c κs = search rules
+shard_for_route-t-requires : tie.Need-shard_for_route-t-requires invariant-loop-i decreases-loop-i
+shard_for_route-t-requires c κs = search rules
 
-include-requires : tie.Need-include-requires invariant-loop decreases-loop
-include-requires c κs =
-    let l = c.before.before.before.before.loop in
+include-m-requires : tie.Need-include-m-requires invariant-loop-i decreases-loop-i
+include-m-requires c κs =
+    let l = c.loop-i in
     (l.invariant.1.sound, omega (arith, l.invariant.1.few))
 
-add-i : tie.Need-overflow-add-i invariant-loop decreases-loop
-add-i c = search rules
+overflow_add-i : tie.Need-overflow_add-i invariant-loop-i decreases-loop-i
+overflow_add-i c = search rules
 
-loop-less : tie.Need-loop-smaller invariant-loop decreases-loop
-loop-less c = search rules
+loop-i-smaller : tie.Need-loop-i-smaller invariant-loop-i decreases-loop-i
+loop-i-smaller c = search rules
 
-loop-again : tie.Need-loop-preserved invariant-loop decreases-loop
-loop-again c =
-    let l = c.before.before.before.before.before.loop in
-    let s = c.before.before.before.before.before.before.args in
+loop-i-preserved : tie.Need-loop-i-preserved invariant-loop-i decreases-loop-i
+loop-i-preserved c =
+    let l = c.loop-i in
+    let s = c.args in
     let rest = map (shard_for_route s.d) (drop (l.i + 1) (take s.n s.far.now)) in
-    let next = trie_next s.d s.far.now l.i s.n (omega arith) (omega arith) ∙ ap (λ x. x ∷ rest) (sym c.before.before.shard-for-route.ensures) in
-    (search rules, put_one _ _ rest _ _ next (omega arith) l.invariant.1 c.include.ensures)
+    let next = trie_next s.d s.far.now l.i s.n (omega arith) (omega arith) ∙ ap (λ x. x ∷ rest) (sym c.shard_for_route-t.ensures) in
+    (search rules, put_one _ _ rest _ _ next (omega arith) l.invariant.1 c.include-m.ensures)
 
-returns : tie.Need-returns invariant-loop decreases-loop
+returns : tie.Need-returns invariant-loop-i decreases-loop-i
 returns c =
-    let l = c.before.loop in
-    let s = c.before.before.args in
+    let l = c.loop-i in
+    let s = c.args in
     ended _ (trie_end s.d s.far.now l.i s.n (omega arith) (omega arith)) l.invariant.1
 
-pub with-trie-spec : {M : Type 1} → statement M
-with-trie-spec =
+pub with_trie_spec : {M : Type 1} → statement M
+with_trie_spec =
     tie.close
     (tie.spec
-    invariant-loop
-    decreases-loop
-    loop-holds
-    mul-shard-for-route
-    element-copy-out-shard-for-route
-    shard-for-route-requires
-    include-requires
-    add-i
-    loop-less
-    loop-again
+    invariant-loop-i
+    decreases-loop-i
+    loop-i-init
+    offset_bounds-far-i
+    bounds-far-i
+    shard_for_route-t-requires
+    include-m-requires
+    overflow_add-i
+    loop-i-smaller
+    loop-i-preserved
     returns)

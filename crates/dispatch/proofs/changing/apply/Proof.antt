@@ -17,286 +17,260 @@ use Rattle.dispatch.proofs.Turns.{Going, going_on, begun, ended}
 use Rattle.dispatch.proofs.changing.apply.Statement.{statement}
 use Rattle.dispatch.proofs.changing.apply.Tie as tie
 
-abbrev invariant-loop : tie.invariant-loop
-invariant-loop kind words lent₀ turns blank a b c d tx second done₀ left₀ lent done left =
+abbrev invariant-loop-left : tie.invariant-loop-left
+invariant-loop-left kind words lent₀ turns blank a b c d tx second done₀ left₀ lent done left =
     Going turns blank (call_of kind words (length lent₀)) done₀.ledger lent₀ lent done left
 
-abbrev decreases-loop : tie.decreases-loop
-decreases-loop kind words lent₀ turns blank a b c d tx second done₀ left₀ lent done left = left
+abbrev decreases-loop-left : tie.decreases-loop-left
+decreases-loop-left kind words lent₀ turns blank a b c d tx second done₀ left₀ lent done left = left
 
 -- a turn's call goes on from where the turns stood
-onward : (f : tie.After-refill invariant-loop decreases-loop) →
-    let l = f.before.before.before.loop in
-    let a = f.before.before.before.before.before.before.before.before.before.before.before.before.args in
-    (later : List ℕ) (s : Done) → Meets (step (call_of a.kind a.words.now (length a.lent.now)) (contents l.done.ledger)) f.refill.new.0 later s →
+onward : (f : tie.After-refill invariant-loop-left decreases-loop-left) →
+    let l = f.loop-left in
+    let a = f.args in
+    (later : List ℕ) (s : Done) → Meets (step (call_of a.kind a.words.now (length a.lent.now)) (contents l.done.ledger)) f.refill.new.lent later s →
     length later ≡ length a.lent.now → Going a.turns a.blank (call_of a.kind a.words.now (length a.lent.now)) a.ledger a.lent.now later s (l.left - 1)
 onward f later s m same =
-    let l = f.before.before.before.loop in
+    let l = f.loop-left in
     going_on _ _ _ _ _ _ _ _ _ _ l.left l.invariant (omega arith) f.refill.ensures m same
 
 -- the list is as long as it was lent
-as_long : (f : tie.After-refill invariant-loop decreases-loop) →
-    length f.refill.new.0 ≡ length f.before.before.before.before.before.before.before.before.before.before.before.before.args.lent.now
-as_long f = f.refill.auto.0 ∙ f.before.before.before.loop.invariant.same
+as_long : (f : tie.After-refill invariant-loop-left decreases-loop-left) →
+    length f.refill.new.lent ≡ length f.args.lent.now
+as_long f = f.refill.auto.lent ∙ f.loop-left.invariant.same
 
-word-at-requires : tie.Need-word-at-requires invariant-loop decreases-loop
-word-at-requires c κs = search rules
+word_at-a-requires : tie.Need-word_at-a-requires invariant-loop-left decreases-loop-left
+word_at-a-requires c κs = search rules
 
-word-at-requires-2 : tie.Need-word-at-requires-2 invariant-loop decreases-loop
-word-at-requires-2 c κs = search rules
+word_at-b-requires : tie.Need-word_at-b-requires invariant-loop-left decreases-loop-left
+word_at-b-requires c κs = search rules
 
-word-at-requires-3 : tie.Need-word-at-requires-3 invariant-loop decreases-loop
-word-at-requires-3 c κs = search rules
+word_at-c-requires : tie.Need-word_at-c-requires invariant-loop-left decreases-loop-left
+word_at-c-requires c κs = search rules
 
-word-at-requires-4 : tie.Need-word-at-requires-4 invariant-loop decreases-loop
-word-at-requires-4 c κs = search rules
+word_at-d-requires : tie.Need-word_at-d-requires invariant-loop-left decreases-loop-left
+word_at-d-requires c κs = search rules
 
-read-requires : tie.Need-read-requires invariant-loop decreases-loop
-read-requires c κs = search rules
+read-tx-requires : tie.Need-read-tx-requires invariant-loop-left decreases-loop-left
+read-tx-requires c κs = search rules
 
-read-requires-2 : tie.Need-read-requires-2 invariant-loop decreases-loop
-read-requires-2 c κs = search rules
+read-second-requires : tie.Need-read-second-requires invariant-loop-left decreases-loop-left
+read-second-requires c κs = search rules
 
-loop-holds : tie.Need-loop-init invariant-loop decreases-loop
-loop-holds c = begun _ _ _ _ _ c.before.before.before.before.before.before.before.before.requires
+loop-left-init : tie.Need-loop-left-init invariant-loop-left decreases-loop-left
+loop-left-init c = begun _ _ _ _ _ c.requires
 
-refill-requires : tie.Need-refill-requires invariant-loop decreases-loop
+refill-requires : tie.Need-refill-requires invariant-loop-left decreases-loop-left
 refill-requires c κs = search rules
 
-sub-left : tie.Need-overflow-sub-left invariant-loop decreases-loop
-sub-left c = search rules
+overflow_sub-left : tie.Need-overflow_sub-left invariant-loop-left decreases-loop-left
+overflow_sub-left c = search rules
 
-register-committed-requires : tie.Need-register-committed-requires invariant-loop decreases-loop
-register-committed-requires c κs = search rules
+register_committed-done-requires : tie.Need-register_committed-done-requires invariant-loop-left decreases-loop-left
+register_committed-done-requires c κs = search rules
 
-loop-less : tie.Need-loop-smaller invariant-loop decreases-loop
-loop-less c = search rules
+loop-left-smaller-in-1 : tie.Need-loop-left-smaller-in-1 invariant-loop-left decreases-loop-left
+loop-left-smaller-in-1 c = search rules
 
-loop-again : tie.Need-loop-preserved invariant-loop decreases-loop
+loop-left-preserved-in-1 : tie.Need-loop-left-preserved-in-1 invariant-loop-left decreases-loop-left
 unfolding call_of
-loop-again c =
-    let f = c.before.before.before.before in
-    onward f _ _ (simp c.before.match.keys1 (beside _ _ _ c.register-committed.ensures)) (as_long f)
+loop-left-preserved-in-1 c =
+    onward c.before.before.before.before.before _ _ (simp c.in-1.is (beside _ _ _ c.register_committed-done.ensures)) (as_long c.before.before.before.before.before)
 
-record-absence-requires : tie.Need-record-absence-requires invariant-loop decreases-loop
-record-absence-requires c κs = search rules
+record_absence-done-requires : tie.Need-record_absence-done-requires invariant-loop-left decreases-loop-left
+record_absence-done-requires c κs = search rules
 
-loop-less-2 : tie.Need-loop-smaller-2 invariant-loop decreases-loop
-loop-less-2 c = search rules
+loop-left-smaller-in-2 : tie.Need-loop-left-smaller-in-2 invariant-loop-left decreases-loop-left
+loop-left-smaller-in-2 c = search rules
 
-loop-again-2 : tie.Need-loop-preserved-2 invariant-loop decreases-loop
+loop-left-preserved-in-2 : tie.Need-loop-left-preserved-in-2 invariant-loop-left decreases-loop-left
 unfolding call_of
-loop-again-2 c =
-    let f = c.before.before.before.before in
-    let w = f.before.before.before.before in
-    onward f _ _ (simp (c.before.match.keys2, ← w.before.read.ensures, ← w.before.before.before.before.word-at2.ensures, ← w.before.before.before.word-at3.ensures) (beside _ _ _ c.record-absence.ensures)) (as_long f)
+loop-left-preserved-in-2 c =
+    onward c.before.before.before.before.before _ _ (simp (c.in-2.is, ← c.read-tx.ensures, ← c.word_at-b.ensures, ← c.word_at-c.ensures) (beside _ _ _ c.record_absence-done.ensures)) (as_long c.before.before.before.before.before)
 
-certify-requires : tie.Need-certify-requires invariant-loop decreases-loop
-certify-requires c κs = search rules
+certify-done-requires : tie.Need-certify-done-requires invariant-loop-left decreases-loop-left
+certify-done-requires c κs = search rules
 
-loop-less-3 : tie.Need-loop-smaller-3 invariant-loop decreases-loop
-loop-less-3 c = search rules
+loop-left-smaller-in-3 : tie.Need-loop-left-smaller-in-3 invariant-loop-left decreases-loop-left
+loop-left-smaller-in-3 c = search rules
 
-loop-again-3 : tie.Need-loop-preserved-3 invariant-loop decreases-loop
+loop-left-preserved-in-3 : tie.Need-loop-left-preserved-in-3 invariant-loop-left decreases-loop-left
 unfolding call_of
-loop-again-3 c =
-    let f = c.before.before.before.before in
-    let w = f.before.before.before.before in
-    onward f _ _ (simp (c.before.match.keys3, ← w.before.read.ensures, ← w.before.before.before.before.word-at2.ensures) (beside _ _ _ c.certify.ensures)) (as_long f)
+loop-left-preserved-in-3 c =
+    onward c.before.before.before.before.before _ _ (simp (c.in-3.is, ← c.read-tx.ensures, ← c.word_at-b.ensures) (beside _ _ _ c.certify-done.ensures)) (as_long c.before.before.before.before.before)
 
-record-abandonment-requires : tie.Need-record-abandonment-requires invariant-loop decreases-loop
-record-abandonment-requires c κs = search rules
+record_abandonment-done-requires : tie.Need-record_abandonment-done-requires invariant-loop-left decreases-loop-left
+record_abandonment-done-requires c κs = search rules
 
-loop-less-4 : tie.Need-loop-smaller-4 invariant-loop decreases-loop
-loop-less-4 c = search rules
+loop-left-smaller-in-4 : tie.Need-loop-left-smaller-in-4 invariant-loop-left decreases-loop-left
+loop-left-smaller-in-4 c = search rules
 
-loop-again-4 : tie.Need-loop-preserved-4 invariant-loop decreases-loop
+loop-left-preserved-in-4 : tie.Need-loop-left-preserved-in-4 invariant-loop-left decreases-loop-left
 unfolding call_of
-loop-again-4 c =
-    let f = c.before.before.before.before in
-    onward f _ _ (simp c.before.match.keys4 (beside _ _ _ c.record-abandonment.ensures)) (as_long f)
+loop-left-preserved-in-4 c =
+    onward c.before.before.before.before.before _ _ (simp c.in-4.is (beside _ _ _ c.record_abandonment-done.ensures)) (as_long c.before.before.before.before.before)
 
-settled-requires : tie.Need-settled-requires invariant-loop decreases-loop
-settled-requires c κs = search rules
+settled-done-requires : tie.Need-settled-done-requires invariant-loop-left decreases-loop-left
+settled-done-requires c κs = search rules
 
-loop-less-5 : tie.Need-loop-smaller-5 invariant-loop decreases-loop
-loop-less-5 c = search rules
+loop-left-smaller-in-5 : tie.Need-loop-left-smaller-in-5 invariant-loop-left decreases-loop-left
+loop-left-smaller-in-5 c = search rules
 
-loop-again-5 : tie.Need-loop-preserved-5 invariant-loop decreases-loop
+loop-left-preserved-in-5 : tie.Need-loop-left-preserved-in-5 invariant-loop-left decreases-loop-left
 unfolding call_of
-loop-again-5 c =
-    let f = c.before.before.before.before in
-    let w = f.before.before.before.before in
-    onward f _ _ (simp (c.before.match.keys5, ← w.before.before.before.before.before.word_at.ensures, ← w.read2.ensures) (beside _ _ _ c.settled.ensures)) (as_long f)
+loop-left-preserved-in-5 c =
+    onward c.before.before.before.before.before _ _ (simp (c.in-5.is, ← c.word_at-a.ensures, ← c.read-second.ensures) (beside _ _ _ c.settled-done.ensures)) (as_long c.before.before.before.before.before)
 
-returned-requires : tie.Need-returned-requires invariant-loop decreases-loop
-returned-requires c κs = search rules
+returned-done-requires : tie.Need-returned-done-requires invariant-loop-left decreases-loop-left
+returned-done-requires c κs = search rules
 
-loop-less-6 : tie.Need-loop-smaller-6 invariant-loop decreases-loop
-loop-less-6 c = search rules
+loop-left-smaller-in-6 : tie.Need-loop-left-smaller-in-6 invariant-loop-left decreases-loop-left
+loop-left-smaller-in-6 c = search rules
 
-loop-again-6 : tie.Need-loop-preserved-6 invariant-loop decreases-loop
+loop-left-preserved-in-6 : tie.Need-loop-left-preserved-in-6 invariant-loop-left decreases-loop-left
 unfolding call_of
-loop-again-6 c =
-    let f = c.before.before.before.before in
-    let w = f.before.before.before.before in
-    onward f _ _ (simp (c.before.match.keys6, ← w.before.before.before.before.before.word_at.ensures, ← w.read2.ensures) (beside _ _ _ c.returned.ensures)) (as_long f)
+loop-left-preserved-in-6 c =
+    onward c.before.before.before.before.before _ _ (simp (c.in-6.is, ← c.word_at-a.ensures, ← c.read-second.ensures) (beside _ _ _ c.returned-done.ensures)) (as_long c.before.before.before.before.before)
 
-closes-requires : tie.Need-closes-requires invariant-loop decreases-loop
-closes-requires c κs = search rules
+closes-done-requires : tie.Need-closes-done-requires invariant-loop-left decreases-loop-left
+closes-done-requires c κs = search rules
 
-loop-less-7 : tie.Need-loop-smaller-7 invariant-loop decreases-loop
-loop-less-7 c = search rules
+loop-left-smaller-in-7 : tie.Need-loop-left-smaller-in-7 invariant-loop-left decreases-loop-left
+loop-left-smaller-in-7 c = search rules
 
-loop-again-7 : tie.Need-loop-preserved-7 invariant-loop decreases-loop
+loop-left-preserved-in-7 : tie.Need-loop-left-preserved-in-7 invariant-loop-left decreases-loop-left
 unfolding call_of
-loop-again-7 c =
-    let a = c.before.before in
-    let m = a.before.before in
-    let f = m.before.before.before in
-    onward f _ _ (simp (m.match.keys7, ← as_long f) a.closes.ensures) (a.closes.auto.1.0 ∙ as_long f)
+loop-left-preserved-in-7 c =
+    onward c.before.before.before.before.before.before.before.before _ _ (simp (c.in-7.is, ← as_long c.before.before.before.before.before.before.before.before) c.closes-done.ensures) (c.closes-done.auto.lent ∙ as_long c.before.before.before.before.before.before.before.before)
 
-fated-requires : tie.Need-fated-requires invariant-loop decreases-loop
-fated-requires c κs = search rules
+fated-done-requires : tie.Need-fated-done-requires invariant-loop-left decreases-loop-left
+fated-done-requires c κs = search rules
 
-loop-less-8 : tie.Need-loop-smaller-8 invariant-loop decreases-loop
-loop-less-8 c = search rules
+loop-left-smaller-in-8 : tie.Need-loop-left-smaller-in-8 invariant-loop-left decreases-loop-left
+loop-left-smaller-in-8 c = search rules
 
-loop-again-8 : tie.Need-loop-preserved-8 invariant-loop decreases-loop
+loop-left-preserved-in-8 : tie.Need-loop-left-preserved-in-8 invariant-loop-left decreases-loop-left
 unfolding call_of
-loop-again-8 c =
-    let f = c.before.before.before.before in
-    let w = f.before.before.before.before in
-    onward f _ _ (simp (c.before.match.keys8, ← w.before.read.ensures) (beside _ _ _ c.fated.ensures)) (as_long f)
+loop-left-preserved-in-8 c =
+    onward c.before.before.before.before.before _ _ (simp (c.in-8.is, ← c.read-tx.ensures) (beside _ _ _ c.fated-done.ensures)) (as_long c.before.before.before.before.before)
 
-release-resolved-requires : tie.Need-release-resolved-requires invariant-loop decreases-loop
-release-resolved-requires c κs = search rules
+release_resolved-done-requires : tie.Need-release_resolved-done-requires invariant-loop-left decreases-loop-left
+release_resolved-done-requires c κs = search rules
 
-loop-less-9 : tie.Need-loop-smaller-9 invariant-loop decreases-loop
-loop-less-9 c = search rules
+loop-left-smaller-in-9 : tie.Need-loop-left-smaller-in-9 invariant-loop-left decreases-loop-left
+loop-left-smaller-in-9 c = search rules
 
-loop-again-9 : tie.Need-loop-preserved-9 invariant-loop decreases-loop
+loop-left-preserved-in-9 : tie.Need-loop-left-preserved-in-9 invariant-loop-left decreases-loop-left
 unfolding call_of
-loop-again-9 c =
-    let f = c.before.before.before.before in
-    onward f _ _ (simp c.before.match.keys9 (beside _ _ _ c.release-resolved.ensures)) (as_long f)
+loop-left-preserved-in-9 c =
+    onward c.before.before.before.before.before _ _ (simp c.in-9.is (beside _ _ _ c.release_resolved-done.ensures)) (as_long c.before.before.before.before.before)
 
-forget-requires : tie.Need-forget-requires invariant-loop decreases-loop
-forget-requires c κs = search rules
+forget-done-requires : tie.Need-forget-done-requires invariant-loop-left decreases-loop-left
+forget-done-requires c κs = search rules
 
-loop-less-10 : tie.Need-loop-smaller-10 invariant-loop decreases-loop
-loop-less-10 c = search rules
+loop-left-smaller-in-10 : tie.Need-loop-left-smaller-in-10 invariant-loop-left decreases-loop-left
+loop-left-smaller-in-10 c = search rules
 
-loop-again-10 : tie.Need-loop-preserved-10 invariant-loop decreases-loop
+loop-left-preserved-in-10 : tie.Need-loop-left-preserved-in-10 invariant-loop-left decreases-loop-left
 unfolding call_of
-loop-again-10 c =
-    let f = c.before.before.before.before in
-    let w = f.before.before.before.before in
-    onward f _ _ (simp (c.before.match.keys10, ← w.before.read.ensures) (beside _ _ _ c.forget.ensures)) (as_long f)
+loop-left-preserved-in-10 c =
+    onward c.before.before.before.before.before _ _ (simp (c.in-10.is, ← c.read-tx.ensures) (beside _ _ _ c.forget-done.ensures)) (as_long c.before.before.before.before.before)
 
-record-terminal-requires : tie.Need-record-terminal-requires invariant-loop decreases-loop
-record-terminal-requires c κs = search rules
+record_terminal-done-requires : tie.Need-record_terminal-done-requires invariant-loop-left decreases-loop-left
+record_terminal-done-requires c κs = search rules
 
-loop-less-11 : tie.Need-loop-smaller-11 invariant-loop decreases-loop
-loop-less-11 c = search rules
+loop-left-smaller-in-11 : tie.Need-loop-left-smaller-in-11 invariant-loop-left decreases-loop-left
+loop-left-smaller-in-11 c = search rules
 
-loop-again-11 : tie.Need-loop-preserved-11 invariant-loop decreases-loop
+loop-left-preserved-in-11 : tie.Need-loop-left-preserved-in-11 invariant-loop-left decreases-loop-left
 unfolding call_of
-loop-again-11 c =
-    let f = c.before.before.before.before in
-    let w = f.before.before.before.before in
-    onward f _ _ (simp (c.before.match.keys11, ← w.before.before.before.before.before.word_at.ensures, ← w.before.before.before.before.word-at2.ensures, ← w.before.before.before.word-at3.ensures, ← w.before.before.word-at4.ensures) (beside _ _ _ c.record-terminal.ensures)) (as_long f)
+loop-left-preserved-in-11 c =
+    onward c.before.before.before.before.before _ _ (simp (c.in-11.is, ← c.word_at-a.ensures, ← c.word_at-b.ensures, ← c.word_at-c.ensures, ← c.word_at-d.ensures) (beside _ _ _ c.record_terminal-done.ensures)) (as_long c.before.before.before.before.before)
 
-stamp-terminal-requires : tie.Need-stamp-terminal-requires invariant-loop decreases-loop
-stamp-terminal-requires c κs = search rules
+stamp_terminal-done-requires : tie.Need-stamp_terminal-done-requires invariant-loop-left decreases-loop-left
+stamp_terminal-done-requires c κs = search rules
 
-loop-less-12 : tie.Need-loop-smaller-12 invariant-loop decreases-loop
-loop-less-12 c = search rules
+loop-left-smaller-in-12 : tie.Need-loop-left-smaller-in-12 invariant-loop-left decreases-loop-left
+loop-left-smaller-in-12 c = search rules
 
-loop-again-12 : tie.Need-loop-preserved-12 invariant-loop decreases-loop
+loop-left-preserved-in-12 : tie.Need-loop-left-preserved-in-12 invariant-loop-left decreases-loop-left
 unfolding call_of
-loop-again-12 c =
-    let f = c.before.before.before.before in
-    let w = f.before.before.before.before in
-    onward f _ _ (simp (c.before.match.keys12, ← w.before.before.before.before.before.word_at.ensures, ← w.before.before.before.before.word-at2.ensures) (beside _ _ _ c.stamp-terminal.ensures)) (as_long f)
+loop-left-preserved-in-12 c =
+    onward c.before.before.before.before.before _ _ (simp (c.in-12.is, ← c.word_at-a.ensures, ← c.word_at-b.ensures) (beside _ _ _ c.stamp_terminal-done.ensures)) (as_long c.before.before.before.before.before)
 
-prune-requires : tie.Need-prune-requires invariant-loop decreases-loop
-prune-requires c κs = search rules
+prune-done-requires : tie.Need-prune-done-requires invariant-loop-left decreases-loop-left
+prune-done-requires c κs = search rules
 
-loop-less-13 : tie.Need-loop-smaller-13 invariant-loop decreases-loop
-loop-less-13 c = search rules
+loop-left-smaller : tie.Need-loop-left-smaller invariant-loop-left decreases-loop-left
+loop-left-smaller c = search rules
 
-loop-again-13 : tie.Need-loop-preserved-13 invariant-loop decreases-loop
+loop-left-preserved : tie.Need-loop-left-preserved invariant-loop-left decreases-loop-left
 unfolding call_of
-loop-again-13 c =
-    let a = c.before.before in
-    let m = a.before.before in
-    let k = m.match.rest in
-    let f = m.before.before.before in
-    let w = f.before.before.before.before in
-    onward f _ _
-    (simp (ne_eqb _ _ k.0.0.0.0.0.0.0.0.0.0.0.1, ne_eqb _ _ k.0.0.0.0.0.0.0.0.0.0.1, ne_eqb _ _ k.0.0.0.0.0.0.0.0.0.1, ne_eqb _ _ k.0.0.0.0.0.0.0.0.1, ne_eqb _ _ k.0.0.0.0.0.0.0.1, ne_eqb _ _ k.0.0.0.0.0.0.1, ne_eqb _ _ k.0.0.0.0.0.1, ne_eqb _ _ k.0.0.0.0.1, ne_eqb _ _ k.0.0.0.1, ne_eqb _ _ k.0.0.1, ne_eqb _ _ k.0.1, ne_eqb _ _ k.1, ← w.before.before.before.before.before.word_at.ensures, ← as_long f) a.prune.ensures)
-    (a.prune.auto.1.1.0 ∙ as_long f)
+loop-left-preserved c =
+    let k = c.in_default.in_default-own.rest in
+    onward c.before.before.before.before.before.before.before.before _ _
+    (simp (ne_eqb _ _ k.0.0.0.0.0.0.0.0.0.0.0.1, ne_eqb _ _ k.0.0.0.0.0.0.0.0.0.0.1, ne_eqb _ _ k.0.0.0.0.0.0.0.0.0.1, ne_eqb _ _ k.0.0.0.0.0.0.0.0.1, ne_eqb _ _ k.0.0.0.0.0.0.0.1, ne_eqb _ _ k.0.0.0.0.0.0.1, ne_eqb _ _ k.0.0.0.0.0.1, ne_eqb _ _ k.0.0.0.0.1, ne_eqb _ _ k.0.0.0.1, ne_eqb _ _ k.0.0.1, ne_eqb _ _ k.0.1, ne_eqb _ _ k.1, ← c.word_at-a.ensures, ← as_long c.before.before.before.before.before.before.before.before) c.prune-done.ensures)
+    (c.prune-done.auto.lent ∙ as_long c.before.before.before.before.before.before.before.before)
 
-same_length : tie.Need-same-length invariant-loop decreases-loop
-same_length c = search rules
+shape_of-lent : tie.Need-shape_of-lent invariant-loop-left decreases-loop-left
+shape_of-lent c = search rules
 
-returns : tie.Need-returns invariant-loop decreases-loop
-returns c = ended _ _ _ _ _ _ _ c.before.loop.left c.before.loop.invariant (omega arith)
+returns : tie.Need-returns invariant-loop-left decreases-loop-left
+returns c = ended _ _ _ _ _ _ _ c.loop-left.left c.loop-left.invariant (omega arith)
 
-pub apply-spec : {M : Type 1} → statement M
-apply-spec =
+pub apply_spec : {M : Type 1} → statement M
+apply_spec =
     tie.close
     (tie.spec
-    invariant-loop
-    decreases-loop
-    word-at-requires
-    word-at-requires-2
-    word-at-requires-3
-    word-at-requires-4
-    read-requires
-    read-requires-2
-    loop-holds
+    invariant-loop-left
+    decreases-loop-left
+    word_at-a-requires
+    word_at-b-requires
+    word_at-c-requires
+    word_at-d-requires
+    read-tx-requires
+    read-second-requires
+    loop-left-init
     refill-requires
-    sub-left
-    register-committed-requires
-    loop-less
-    loop-again
-    record-absence-requires
-    loop-less-2
-    loop-again-2
-    certify-requires
-    loop-less-3
-    loop-again-3
-    record-abandonment-requires
-    loop-less-4
-    loop-again-4
-    settled-requires
-    loop-less-5
-    loop-again-5
-    returned-requires
-    loop-less-6
-    loop-again-6
-    closes-requires
-    loop-less-7
-    loop-again-7
-    fated-requires
-    loop-less-8
-    loop-again-8
-    release-resolved-requires
-    loop-less-9
-    loop-again-9
-    forget-requires
-    loop-less-10
-    loop-again-10
-    record-terminal-requires
-    loop-less-11
-    loop-again-11
-    stamp-terminal-requires
-    loop-less-12
-    loop-again-12
-    prune-requires
-    loop-less-13
-    loop-again-13
-    same_length
+    overflow_sub-left
+    register_committed-done-requires
+    loop-left-smaller-in-1
+    loop-left-preserved-in-1
+    record_absence-done-requires
+    loop-left-smaller-in-2
+    loop-left-preserved-in-2
+    certify-done-requires
+    loop-left-smaller-in-3
+    loop-left-preserved-in-3
+    record_abandonment-done-requires
+    loop-left-smaller-in-4
+    loop-left-preserved-in-4
+    settled-done-requires
+    loop-left-smaller-in-5
+    loop-left-preserved-in-5
+    returned-done-requires
+    loop-left-smaller-in-6
+    loop-left-preserved-in-6
+    closes-done-requires
+    loop-left-smaller-in-7
+    loop-left-preserved-in-7
+    fated-done-requires
+    loop-left-smaller-in-8
+    loop-left-preserved-in-8
+    release_resolved-done-requires
+    loop-left-smaller-in-9
+    loop-left-preserved-in-9
+    forget-done-requires
+    loop-left-smaller-in-10
+    loop-left-preserved-in-10
+    record_terminal-done-requires
+    loop-left-smaller-in-11
+    loop-left-preserved-in-11
+    stamp_terminal-done-requires
+    loop-left-smaller-in-12
+    loop-left-preserved-in-12
+    prune-done-requires
+    loop-left-smaller
+    loop-left-preserved
+    shape_of-lent
     returns)

@@ -8,14 +8,14 @@ use Rattle.dispatch.proofs.changing.refill.Tie as tie
 fill-requires : tie.Need-fill-requires
 fill-requires c κs = search rules
 
-same_length : tie.Need-same-length
-same_length c = search rules
+shape_of-lent : tie.Need-shape_of-lent
+shape_of-lent c = search rules
 
-returns : tie.Need-returns
-returns c = rw c.before.before.before.before.if1.true c.before.before.fill.ensures
+returns-then-is_further : tie.Need-returns-then-is_further
+returns-then-is_further c = rw c.if-is_further.true c.fill.ensures
 
-returns-2 : tie.Need-returns-2
-returns-2 c = rw c.if1.false refl
+returns-else-is_further : tie.Need-returns-else-is_further
+returns-else-is_further c = rw c.if-is_further.false refl
 
-pub refill-spec : {M : Type 1} → statement M
-refill-spec = tie.close (tie.spec fill-requires same_length returns returns-2)
+pub refill_spec : {M : Type 1} → statement M
+refill_spec = tie.close (tie.spec fill-requires shape_of-lent returns-then-is_further returns-else-is_further)

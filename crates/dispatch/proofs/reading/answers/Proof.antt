@@ -4,43 +4,43 @@ use borrow.Author.Rules.{rules}
 use Rattle.dispatch.proofs.reading.answers.Statement.{statement}
 use Rattle.dispatch.proofs.reading.answers.Tie as tie
 
-read-requires : tie.Need-read-requires
-read-requires c κs = search rules
+read-tx-requires : tie.Need-read-tx-requires
+read-tx-requires c κs = search rules
 
-word-at-requires : tie.Need-word-at-requires
-word-at-requires c κs = search rules
+word_at-requires : tie.Need-word_at-requires
+word_at-requires c κs = search rules
 
-word-at-requires-2 : tie.Need-word-at-requires-2
-word-at-requires-2 c κs = search rules
+word_at-key-requires : tie.Need-word_at-key-requires
+word_at-key-requires c κs = search rules
 
-word-at-requires-3 : tie.Need-word-at-requires-3
-word-at-requires-3 c κs = search rules
+word_at-requires-2 : tie.Need-word_at-requires-2
+word_at-requires-2 c κs = search rules
 
-word-at-requires-4 : tie.Need-word-at-requires-4
-word-at-requires-4 c κs = search rules
+word_at-requires-3 : tie.Need-word_at-requires-3
+word_at-requires-3 c κs = search rules
 
-word-at-requires-5 : tie.Need-word-at-requires-5
-word-at-requires-5 c κs = search rules
+word_at-requires-4 : tie.Need-word_at-requires-4
+word_at-requires-4 c κs = search rules
 
-word-at-requires-6 : tie.Need-word-at-requires-6
-word-at-requires-6 c κs = search rules
+word_at-requires-5 : tie.Need-word_at-requires-5
+word_at-requires-5 c κs = search rules
 
 answers-requires : tie.Need-answers-requires
 answers-requires c κs = search rules
 
 returns : tie.Need-returns
-returns c = simp (← c.before.before.before.before.before.before.before.read.ensures, ← c.before.before.before.before.before.before.word_at.ensures, ← c.before.before.before.before.word-at3.ensures, ← c.before.before.before.word-at4.ensures, ← c.before.before.word-at5.ensures, ← c.before.word-at6.ensures) c.answers.ensures
+returns c = simp (← c.read-tx.ensures, ← c.word_at.ensures, ← c.word_at-2.ensures, ← c.word_at-3.ensures, ← c.word_at-4.ensures, ← c.word_at-5.ensures) c.answers.ensures
 
-pub answers-spec : {M : Type 1} → statement M
-answers-spec =
+pub answers_spec : {M : Type 1} → statement M
+answers_spec =
     tie.close
     (tie.spec
-    read-requires
-    word-at-requires
-    word-at-requires-2
-    word-at-requires-3
-    word-at-requires-4
-    word-at-requires-5
-    word-at-requires-6
+    read-tx-requires
+    word_at-requires
+    word_at-key-requires
+    word_at-requires-2
+    word_at-requires-3
+    word_at-requires-4
+    word_at-requires-5
     answers-requires
     returns)

@@ -14,23 +14,21 @@ whole s = made s.args.items.now s.args.n
 
 include-requires : tie.Need-include-requires
 include-requires c κs =
-    let s = c.before in
-    let h = s.requires.0.sized in
-    let l = front (whole s) in
-    (omega (arith, h.room, h.size), s.requires.0.rising, omega (arith, length-include self s.args.x.0 l, front_length (whole s) h, h.size, s.requires.1))
+    let h = c.requires.0.sized in
+    let l = front (whole c.before) in
+    (omega (arith, h.room, h.size), c.requires.0.rising, omega (arith, length-include self c.args.x.0 l, front_length (whole c.before) h, h.size, c.requires.1))
 
 returns : tie.Need-returns
 returns c =
-    let s = c.before.before in
     let o = c.include.ensures in
-    let h = s.requires.0 in
+    let h = c.requires.0 in
     record {
       sound = record {
         sized = record { room = omega (arith, o.room, o.size, h.sized.size); size = o.size ∙ h.sized.size };
-        rising = rw o.front (ascending-include self s.args.x.0 (front (whole s)) h.rising);
+        rising = rw o.front (ascending-include self c.args.x.0 (front (whole c.before.before)) h.rising);
       };
       holds = o.front;
     }
 
-pub include-spec : {M : Type 1} → statement M
-include-spec = tie.close (tie.spec include-requires returns)
+pub include_spec : {M : Type 1} → statement M
+include_spec = tie.close (tie.spec include-requires returns)

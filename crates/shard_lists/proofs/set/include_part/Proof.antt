@@ -13,61 +13,61 @@ use borrow.Author.Rules.{rules}
 use Rattle.shard_lists.proofs.set.include_part.Statement.{statement}
 use Rattle.shard_lists.proofs.set.include_part.Tie as tie
 
-abbrev invariant-loop : tie.invariant-loop
-invariant-loop items₀ len from n to m₀ i₀ items m i = (i ≤ n) × Sofar (include_all itself (part from n to) (front (made items₀ len))) (drop i (part from n to)) (len + i) (made items m)
+abbrev invariant-loop-i : tie.invariant-loop-i
+invariant-loop-i items₀ len from n to m₀ i₀ items m i = (i ≤ n) × Sofar (include_all itself (part from n to) (front (made items₀ len))) (drop i (part from n to)) (len + i) (made items m)
 
-abbrev decreases-loop : tie.decreases-loop
-decreases-loop items₀ len from n to m₀ i₀ items m i = n - i
+abbrev decreases-loop-i : tie.decreases-loop-i
+decreases-loop-i items₀ len from n to m₀ i₀ items m i = n - i
 
-loop-holds : tie.Need-loop-init invariant-loop decreases-loop
-loop-holds c = (search rules, begun _ _ _ (omega arith) c.requires.0)
+loop-i-init : tie.Need-loop-i-init invariant-loop-i decreases-loop-i
+loop-i-init c = (search rules, begun _ _ _ (omega arith) c.requires.0)
 
-add-t11 : tie.Need-overflow-add-t11 invariant-loop decreases-loop
-add-t11 c = search rules
+overflow_add-x : tie.Need-overflow_add-x invariant-loop-i decreases-loop-i
+overflow_add-x c = search rules
 
-mul-t12 : tie.Need-overflow-mul-t12 invariant-loop decreases-loop
-mul-t12 c = search rules
+offset_bounds-to-from : tie.Need-offset_bounds-to-from invariant-loop-i decreases-loop-i
+offset_bounds-to-from c = search rules
 
-array-read-t15 : tie.Need-array-read-t15 invariant-loop decreases-loop
-array-read-t15 c = search rules
+bounds-to-from : tie.Need-bounds-to-from invariant-loop-i decreases-loop-i
+bounds-to-from c = search rules
 
-include-requires : tie.Need-include-requires invariant-loop decreases-loop
-include-requires c κs =
-    let l = c.before.before.loop in
+include-m-requires : tie.Need-include-m-requires invariant-loop-i decreases-loop-i
+include-m-requires c κs =
+    let l = c.loop-i in
     (l.invariant.1.sound, omega (arith, l.invariant.1.few))
 
-add-i : tie.Need-overflow-add-i invariant-loop decreases-loop
-add-i c = search rules
+overflow_add-i : tie.Need-overflow_add-i invariant-loop-i decreases-loop-i
+overflow_add-i c = search rules
 
-loop-less : tie.Need-loop-smaller invariant-loop decreases-loop
-loop-less c = search rules
+loop-i-smaller : tie.Need-loop-i-smaller invariant-loop-i decreases-loop-i
+loop-i-smaller c = search rules
 
-loop-again : tie.Need-loop-preserved invariant-loop decreases-loop
-loop-again c =
-    let l = c.before.before.before.loop in
-    let s = c.before.before.before.before.args in
-    let h : length s.t3 ≡ 32 = search rules in
-    (search rules, put_one _ _ _ _ _ (part-cons _ s.t3 s.from l.i s.n (omega arith) (omega arith)) (omega arith) l.invariant.1 c.include.ensures)
+loop-i-preserved : tie.Need-loop-i-preserved invariant-loop-i decreases-loop-i
+loop-i-preserved c =
+    let l = c.loop-i in
+    let s = c.args in
+    let h : length s.to ≡ 32 = search rules in
+    (search rules, put_one _ _ _ _ _ (part-cons _ s.to s.from l.i s.n (omega arith) (omega arith)) (omega arith) l.invariant.1 c.include-m.ensures)
 
-returns : tie.Need-returns invariant-loop decreases-loop
+returns : tie.Need-returns invariant-loop-i decreases-loop-i
 returns c =
-    let l = c.before.loop in
-    let s = c.before.before.args in
-    let h : length s.t3 ≡ 32 = search rules in
-    ended _ (rest_end (drop s.from s.t3) l.i s.n (omega arith) (omega (arith, length-drop s.from s.t3))) l.invariant.1
+    let l = c.loop-i in
+    let s = c.args in
+    let h : length s.to ≡ 32 = search rules in
+    ended _ (rest_end (drop s.from s.to) l.i s.n (omega arith) (omega (arith, length-drop s.from s.to))) l.invariant.1
 
-pub include-part-spec : {M : Type 1} → statement M
-include-part-spec =
+pub include_part_spec : {M : Type 1} → statement M
+include_part_spec =
     tie.close
     (tie.spec
-    invariant-loop
-    decreases-loop
-    loop-holds
-    add-t11
-    mul-t12
-    array-read-t15
-    include-requires
-    add-i
-    loop-less
-    loop-again
+    invariant-loop-i
+    decreases-loop-i
+    loop-i-init
+    overflow_add-x
+    offset_bounds-to-from
+    bounds-to-from
+    include-m-requires
+    overflow_add-i
+    loop-i-smaller
+    loop-i-preserved
     returns)
