@@ -16,7 +16,7 @@ use Rattle.rules.specs.Numbers.{is_time}
 use Rattle.rules.specs.Plain.{Plain}
 use Rattle.rules.specs.Index.{names, lists_record}
 use Rattle.rules.specs.Good.{Good}
-use Rattle.rules.specs.Prune.{Report, report_words, reports, fallen, pruned, prunes, all_reports, in_order, last_of, AsOnce}
+use Rattle.rules.specs.Prune.{Report, report_words, reports, pruned, prunes, all_reports, in_order, last_of, AsOnce}
 use Rattle.rules.specs.Calls.{Call, run}
 use Rattle.rules.proofs.Once.{as_once}
 use Rattle.rules.proofs.Named.{index-names}

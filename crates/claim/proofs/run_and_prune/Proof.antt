@@ -4,27 +4,26 @@ use borrow.Author.Rules.{rules}
 use Rattle.claim.proofs.run_and_prune.Statement.{statement}
 use Rattle.claim.proofs.run_and_prune.Tie as tie
 
-new-requires : tie.Need-new-requires
-new-requires c κs = search rules
+new-made-requires : tie.Need-new-made-requires
+new-made-requires c κs = search rules
 
-run-and-prune-from-requires : tie.Need-run-and-prune-from-requires
-run-and-prune-from-requires c κs = search rules
+run_and_prune_from-requires : tie.Need-run_and_prune_from-requires
+run_and_prune_from-requires c κs = search rules
 
-same_length : tie.Need-same-length
-same_length c = search rules
+shape_of-lent : tie.Need-shape_of-lent
+shape_of-lent c = search rules
 
-same-length-2 : tie.Need-same-length-2
-same-length-2 c = search rules
+shape_of-reports : tie.Need-shape_of-reports
+shape_of-reports c = search rules
 
-same-length-3 : tie.Need-same-length-3
-same-length-3 c = search rules
+shape_of-counts : tie.Need-shape_of-counts
+shape_of-counts c = search rules
 
 returns : tie.Need-returns
 returns c =
-    let a = c.before.before.before.before.before.before in
-    rw a.before.before.before.before.new.ensures.ledger at a.run-and-prune-from.ensures
+    rw c.new-made.ensures.ledger at c.run_and_prune_from.ensures
 
-pub run-and-prune-spec : {M : Type 1} → statement M
-run-and-prune-spec =
+pub run_and_prune_spec : {M : Type 1} → statement M
+run_and_prune_spec =
     tie.close
-    (tie.spec new-requires run-and-prune-from-requires same_length same-length-2 same-length-3 returns)
+    (tie.spec new-made-requires run_and_prune_from-requires shape_of-lent shape_of-reports shape_of-counts returns)

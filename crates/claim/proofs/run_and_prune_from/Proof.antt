@@ -8,56 +8,54 @@ use Rattle.claim.proofs.run_and_prune_from.Statement.{statement}
 use Rattle.claim.proofs.run_and_prune_from.Tie as tie
 
 -- what the test says where it is passed
-passed : (c : tie.Else1) →
-    let a = c.before.before.before.before.before.before.before.before.before.before.before.args in
+passed : (c : tie.Else-not-may_prune) →
+    let a = c.args in
     May a.clocks.now a.reports.now a.counts.now
-passed c = may _ _ _ (sym c.before.may-prune.ensures ∙ not-false _ c.if1.false)
+passed c = may _ _ _ (sym c.may_prune.ensures ∙ not-false _ c.if-not-may_prune.false-raw)
 
-run-calls-requires : tie.Need-run-calls-requires
-run-calls-requires c κs = search rules
+run_calls-before-requires : tie.Need-run_calls-before-requires
+run_calls-before-requires c κs = search rules
 
-may-prune-requires : tie.Need-may-prune-requires
-may-prune-requires c κs = search rules
+may_prune-requires : tie.Need-may_prune-requires
+may_prune-requires c κs = search rules
 
-same_length : tie.Need-same-length
-same_length c = search rules
+shape_of-lent-then-not-may_prune : tie.Need-shape_of-lent-then-not-may_prune
+shape_of-lent-then-not-may_prune c = search rules
+
+returns-then-not-may_prune : tie.Need-returns-then-not-may_prune
+returns-then-not-may_prune c =
+    let a = c.run_calls-before.ensures in
+    unpruned _ _ _ _ _ _ _ _ _ a.held a.ledger a.wrote (sym c.may_prune.ensures ∙ not-true _ c.if-not-may_prune.true-raw)
+
+prune_all-p-requires : tie.Need-prune_all-p-requires
+prune_all-p-requires c κs =
+    let m = passed c.before.before in
+    (c.run_calls-before.ensures.held, m.times, m.reports, m.counts)
+
+shape_of-lent : tie.Need-shape_of-lent
+shape_of-lent c = search rules
+
+shape_of-reports : tie.Need-shape_of-reports
+shape_of-reports c = search rules
+
+shape_of-counts : tie.Need-shape_of-counts
+shape_of-counts c = search rules
 
 returns : tie.Need-returns
 returns c =
-    let a = c.before.before.before.before.run-calls.ensures in
-    unpruned _ _ _ _ _ _ _ _ _ a.held a.ledger a.wrote (sym c.before.may-prune.ensures ∙ not-true _ c.if1.true)
+    let a = c.run_calls-before.ensures in
+    all-pruned _ _ _ _ _ _ _ _ _ _ _ _ a.held a.ledger a.wrote (sym c.may_prune.ensures ∙ not-false _ c.if-not-may_prune.false-raw) c.prune_all-p.ensures
 
-prune-all-requires : tie.Need-prune-all-requires
-prune-all-requires c κs =
-    let m = passed c.before.before in
-    (c.before.before.before.before.before.before.run-calls.ensures.held, m.times, m.reports, m.counts)
-
-same-length-2 : tie.Need-same-length-2
-same-length-2 c = search rules
-
-same-length-3 : tie.Need-same-length-3
-same-length-3 c = search rules
-
-same-length-4 : tie.Need-same-length-4
-same-length-4 c = search rules
-
-returns-2 : tie.Need-returns-2
-returns-2 c =
-    let q = c.before.before.before.before.before.before in
-    let e = q.before.before.before in
-    let a = e.before.before.before.before.run-calls.ensures in
-    all-pruned _ _ _ _ _ _ _ _ _ _ _ _ a.held a.ledger a.wrote (sym e.before.may-prune.ensures ∙ not-false _ e.if1.false) q.prune-all.ensures
-
-pub run-and-prune-from-spec : {M : Type 1} → statement M
-run-and-prune-from-spec =
+pub run_and_prune_from_spec : {M : Type 1} → statement M
+run_and_prune_from_spec =
     tie.close
     (tie.spec
-    run-calls-requires
-    may-prune-requires
-    same_length
-    returns
-    prune-all-requires
-    same-length-2
-    same-length-3
-    same-length-4
-    returns-2)
+    run_calls-before-requires
+    may_prune-requires
+    shape_of-lent-then-not-may_prune
+    returns-then-not-may_prune
+    prune_all-p-requires
+    shape_of-lent
+    shape_of-reports
+    shape_of-counts
+    returns)

@@ -17,143 +17,135 @@ use Rattle.claim.proofs.Writing.{lent-front}
 use Rattle.claim.proofs.running.run_calls.Statement.{statement}
 use Rattle.claim.proofs.running.run_calls.Tie as tie
 
-abbrev invariant-loop : tie.invariant-loop
-invariant-loop calls lent₀ ledger₀ at₀ lent ledger at =
+abbrev invariant-loop-at : tie.invariant-loop-at
+invariant-loop-at calls lent₀ ledger₀ at₀ lent ledger at =
     (at ≤ length calls)
     × (length lent ≡ length lent₀)
     × Held ledger
     × (run (decode (length lent₀) (drop at calls)) (contents ledger) ≡ run (decode (length lent₀) calls) (contents ledger₀))
     × (lent_after (decode (length lent₀) (drop at calls)) (contents ledger) lent ≡ lent_after (decode (length lent₀) calls) (contents ledger₀) lent₀)
 
-abbrev decreases-loop : tie.decreases-loop
-decreases-loop calls lent₀ ledger₀ at₀ lent ledger at = length calls - at
+abbrev decreases-loop-at : tie.decreases-loop-at
+decreases-loop-at calls lent₀ ledger₀ at₀ lent ledger at = length calls - at
 
-loop-holds : tie.Need-loop-init invariant-loop decreases-loop
-loop-holds c = search rules
+loop-at-init : tie.Need-loop-at-init invariant-loop-at decreases-loop-at
+loop-at-init c = search rules
 
-word-at-requires : tie.Need-word-at-requires invariant-loop decreases-loop
-word-at-requires c κs = search rules
+word_at-kind-requires : tie.Need-word_at-kind-requires invariant-loop-at decreases-loop-at
+word_at-kind-requires c κs = search rules
 
-add-word-at : tie.Need-overflow-add-word-at invariant-loop decreases-loop
-add-word-at c = search rules
+overflow_add-at : tie.Need-overflow_add-at invariant-loop-at decreases-loop-at
+overflow_add-at c = search rules
 
-word-at-requires-2 : tie.Need-word-at-requires-2 invariant-loop decreases-loop
-word-at-requires-2 c κs = search rules
+word_at-requires : tie.Need-word_at-requires invariant-loop-at decreases-loop-at
+word_at-requires c κs = search rules
 
-at-most-requires : tie.Need-at-most-requires invariant-loop decreases-loop
-at-most-requires c κs = search rules
+at_most-room-requires : tie.Need-at_most-room-requires invariant-loop-at decreases-loop-at
+at_most-room-requires c κs = search rules
 
-add-word-at-2 : tie.Need-overflow-add-word-at-2 invariant-loop decreases-loop
-add-word-at-2 c = search rules
+overflow_add-at-in-loop-at : tie.Need-overflow_add-at-in-loop-at invariant-loop-at decreases-loop-at
+overflow_add-at-in-loop-at c = search rules
 
-word-at-requires-3 : tie.Need-word-at-requires-3 invariant-loop decreases-loop
-word-at-requires-3 c κs = search rules
+word_at-count-requires : tie.Need-word_at-count-requires invariant-loop-at decreases-loop-at
+word_at-count-requires c κs = search rules
 
-add-at-most : tie.Need-overflow-add-at-most invariant-loop decreases-loop
-add-at-most c = search rules
+overflow_add-at-in-loop-at-2 : tie.Need-overflow_add-at-in-loop-at-2 invariant-loop-at decreases-loop-at
+overflow_add-at-in-loop-at-2 c = search rules
 
-at-most-requires-2 : tie.Need-at-most-requires-2 invariant-loop decreases-loop
-at-most-requires-2 c κs = search rules
+at_most-from-requires : tie.Need-at_most-from-requires invariant-loop-at decreases-loop-at
+at_most-from-requires c κs = search rules
 
-sub-at-most : tie.Need-overflow-sub-at-most invariant-loop decreases-loop
-sub-at-most c = search rules
+overflow_sub-calls : tie.Need-overflow_sub-calls invariant-loop-at decreases-loop-at
+overflow_sub-calls c = search rules
 
-at-most-requires-3 : tie.Need-at-most-requires-3 invariant-loop decreases-loop
-at-most-requires-3 c κs = search rules
+at_most-requires : tie.Need-at_most-requires invariant-loop-at decreases-loop-at
+at_most-requires c κs = search rules
 
-add-end : tie.Need-overflow-add-end invariant-loop decreases-loop
-add-end c = search rules
+overflow_add-end : tie.Need-overflow_add-end invariant-loop-at decreases-loop-at
+overflow_add-end c = search rules
 
-mul_apply : tie.Need-overflow-mul-apply invariant-loop decreases-loop
-mul_apply c = search rules
+offset_bounds-calls-from : tie.Need-offset_bounds-calls-from invariant-loop-at decreases-loop-at
+offset_bounds-calls-from c = search rules
 
-sub_apply : tie.Need-overflow-sub-apply invariant-loop decreases-loop
-sub_apply c = search rules
+slice_bounds-apply-count : tie.Need-slice_bounds-apply-count invariant-loop-at decreases-loop-at
+slice_bounds-apply-count c = search rules
 
-part-apply-start : tie.Need-slice-bounds-apply-start invariant-loop decreases-loop
-part-apply-start c = search rules
+slice_bounds-apply-start : tie.Need-slice_bounds-apply-start invariant-loop-at decreases-loop-at
+slice_bounds-apply-start c = search rules
 
-part-apply-end : tie.Need-slice-bounds-apply-end invariant-loop decreases-loop
-part-apply-end c = search rules
+slice_bounds-apply-end : tie.Need-slice_bounds-apply-end invariant-loop-at decreases-loop-at
+slice_bounds-apply-end c = search rules
 
-slice-relend-prefix-apply : tie.Need-slice-relend-prefix-apply invariant-loop decreases-loop
-slice-relend-prefix-apply c = search rules
+slice_bounds-apply-end-in-loop-at : tie.Need-slice_bounds-apply-end-in-loop-at invariant-loop-at decreases-loop-at
+slice_bounds-apply-end-in-loop-at c = search rules
 
-slice-aggregate-apply : tie.Need-slice-aggregate-apply invariant-loop decreases-loop
-slice-aggregate-apply c = simp length-take (omega arith)
+slice_bounds-apply-end-in-loop-at-2 : tie.Need-slice_bounds-apply-end-in-loop-at-2 invariant-loop-at decreases-loop-at
+slice_bounds-apply-end-in-loop-at-2 c = simp length-take (omega arith)
 
-apply-requires : tie.Need-apply-requires invariant-loop decreases-loop
-apply-requires c κs = search rules
+apply-done-requires : tie.Need-apply-done-requires invariant-loop-at decreases-loop-at
+apply-done-requires c κs = search rules
 
-loop-less : tie.Need-loop-smaller invariant-loop decreases-loop
-loop-less c = search rules
+loop-at-smaller : tie.Need-loop-at-smaller invariant-loop-at decreases-loop-at
+loop-at-smaller c = search rules
 
-loop-again : tie.Need-loop-preserved invariant-loop decreases-loop
-loop-again c =
-    let a = c.before.before.before in
-    let m3 = a.before.before.before in
-    let m2 = m3.before in
-    let w3 = m2.before in
-    let m = w3.before in
-    let w2 = m.before in
-    let w = w2.before in
-    let l = w.before.before.loop in
-    let s = w.before.before.before.before.before in
-    let ws = s.args.calls.now in
-    let limit = length s.args.lent.now in
-    let room = m.at_most.result in
-    let from = m2.at-most2.result in
-    let end = from + m3.at-most3.result in
-    let counted : m3.at-most3.result ≡ min (word (l.at + 2) ws) (length ws - from) = m3.at-most3.ensures ∙ rw w3.word-at3.ensures in
+loop-at-preserved : tie.Need-loop-at-preserved invariant-loop-at decreases-loop-at
+loop-at-preserved c =
+    let l = c.loop-at in
+    let ws = c.args.calls.now in
+    let limit = length c.args.lent.now in
+    let room = c.at_most-room.result in
+    let from = c.at_most-from.result in
+    let end = from + c.at_most.result in
+    let counted : c.at_most.result ≡ min (word (l.at + 2) ws) (length ws - from) = c.at_most.ensures ∙ rw c.word_at-count.ensures in
     let lent-on : length (take room l.lent) ≡ min (word (l.at + 1) ws) limit =
-    simp length-take (omega (arith, m.at_most.ensures, w2.word-at2.ensures, l.invariant.1)) in
-    let next = decode-next limit ws l.at from end (omega arith) m2.at-most2.ensures (ap (λ k. from + k) counted) in
-    let did = simp (w.word_at.ensures, lent-on) at a.apply.ensures in
+    simp length-take (omega (arith, c.at_most-room.ensures, c.word_at.ensures, l.invariant.1)) in
+    let next = decode-next limit ws l.at from end (omega arith) c.at_most-from.ensures (ap (λ k. from + k) counted) in
+    let did = simp (c.word_at-kind.ensures, lent-on) at c.apply-done.ensures in
     let call = call_of (word l.at ws) (take (end - from) (drop from ws)) (min (word (l.at + 1) ws) limit) in
-    let last = a.apply.new.1.1.1.0 in
+    let last = c.apply-done.new.lent in
     let rest = decode limit (drop end ws) in (
       search rules,
-      length_front l.lent last room a.apply.auto.1.1.1.0 ∙ l.invariant.1,
+      length_front l.lent last room c.apply-done.auto.lent ∙ l.invariant.1,
       did.held,
       ap (run rest) did.ledger ∙ (rw next at l.invariant.3),
-      ap₂ (lent_after rest) did.ledger (lent-front (step call (contents l.ledger)).words l.lent last room did.wrote a.apply.auto.1.1.1.0) ∙ (rw next at l.invariant.4),
+      ap₂ (lent_after rest) did.ledger (lent-front (step call (contents l.ledger)).words l.lent last room did.wrote c.apply-done.auto.lent) ∙ (rw next at l.invariant.4),
     )
 
-same_length : tie.Need-same-length invariant-loop decreases-loop
-same_length c = search rules
+shape_of-lent : tie.Need-shape_of-lent invariant-loop-at decreases-loop-at
+shape_of-lent c = search rules
 
-returns : tie.Need-returns invariant-loop decreases-loop
+returns : tie.Need-returns invariant-loop-at decreases-loop-at
 returns c =
-    let l = c.before.loop in
-    let end = rest-none c.before.before.before.before.args.calls.now l.at (omega arith) in
+    let l = c.loop-at in
+    let end = rest-none c.args.calls.now l.at (omega arith) in
     record { held = l.invariant.2; ledger = rw end at l.invariant.3; wrote = rw end at l.invariant.4 }
 
-pub run-calls-spec : {M : Type 1} → statement M
-run-calls-spec =
+pub run_calls_spec : {M : Type 1} → statement M
+run_calls_spec =
     tie.close
     (tie.spec
-    invariant-loop
-    decreases-loop
-    loop-holds
-    word-at-requires
-    add-word-at
-    word-at-requires-2
-    at-most-requires
-    add-word-at-2
-    word-at-requires-3
-    add-at-most
-    at-most-requires-2
-    sub-at-most
-    at-most-requires-3
-    add-end
-    mul_apply
-    sub_apply
-    part-apply-start
-    part-apply-end
-    slice-relend-prefix-apply
-    slice-aggregate-apply
-    apply-requires
-    loop-less
-    loop-again
-    same_length
+    invariant-loop-at
+    decreases-loop-at
+    loop-at-init
+    word_at-kind-requires
+    overflow_add-at
+    word_at-requires
+    at_most-room-requires
+    overflow_add-at-in-loop-at
+    word_at-count-requires
+    overflow_add-at-in-loop-at-2
+    at_most-from-requires
+    overflow_sub-calls
+    at_most-requires
+    overflow_add-end
+    offset_bounds-calls-from
+    slice_bounds-apply-count
+    slice_bounds-apply-start
+    slice_bounds-apply-end
+    slice_bounds-apply-end-in-loop-at
+    slice_bounds-apply-end-in-loop-at-2
+    apply-done-requires
+    loop-at-smaller
+    loop-at-preserved
+    shape_of-lent
     returns)

@@ -16,11 +16,11 @@ halved n m = go (leb (2 * n) m) refl
     go true t = rw t (le-leb n (m / 2) (omega (arith, leb-true (2 * n) m t)))
     go false t = rw t (lt-leb n (m / 2) (omega (arith, leb-false (2 * n) m t)))
 
-returns : tie.Need-returns
-returns c = rw (le-leb _ _ c.if1.true) (halved c.before.args.prunes c.before.args.counts)
+returns-then-reports-ge-REPORTS_ROOM : tie.Need-returns-then-reports-ge-REPORTS_ROOM
+returns-then-reports-ge-REPORTS_ROOM c = rw (le-leb _ _ c.if-reports-ge-REPORTS_ROOM.true) (halved c.args.prunes c.args.counts)
 
-returns-2 : tie.Need-returns-2
-returns-2 c = rw (lt-leb _ _ c.if1.false) refl
+returns-else-reports-ge-REPORTS_ROOM : tie.Need-returns-else-reports-ge-REPORTS_ROOM
+returns-else-reports-ge-REPORTS_ROOM c = rw (lt-leb _ _ c.if-reports-ge-REPORTS_ROOM.false) refl
 
-pub has-room-spec : {M : Type 1} → statement M
-has-room-spec = tie.close (tie.spec returns returns-2)
+pub has_room_spec : {M : Type 1} → statement M
+has_room_spec = tie.close (tie.spec returns-then-reports-ge-REPORTS_ROOM returns-else-reports-ge-REPORTS_ROOM)

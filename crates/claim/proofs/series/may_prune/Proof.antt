@@ -5,17 +5,17 @@ use mathlib.Core.Path.{sym, ◌∙◌}
 use Rattle.claim.proofs.series.may_prune.Statement.{statement}
 use Rattle.claim.proofs.series.may_prune.Tie as tie
 
-is-nondecreasing-requires : tie.Need-is-nondecreasing-requires
-is-nondecreasing-requires c κs = search rules
+is_nondecreasing-requires : tie.Need-is_nondecreasing-requires
+is_nondecreasing-requires c κs = search rules
 
-has-room-requires : tie.Need-has-room-requires
-has-room-requires c κs = search rules
+has_room-requires : tie.Need-has_room-requires
+has_room-requires c κs = search rules
 
-returns : tie.Need-returns
-returns c = rw (sym c.before.before.is-nondecreasing.ensures ∙ c.before.if1.true) c.has_room.ensures
+returns-then-is_nondecreasing : tie.Need-returns-then-is_nondecreasing
+returns-then-is_nondecreasing c = rw (sym c.is_nondecreasing.ensures ∙ c.if-is_nondecreasing.true) c.has_room.ensures
 
-returns-2 : tie.Need-returns-2
-returns-2 c = rw (sym c.before.is-nondecreasing.ensures ∙ c.if1.false) c.if1.false
+returns-else-is_nondecreasing : tie.Need-returns-else-is_nondecreasing
+returns-else-is_nondecreasing c = rw (sym c.is_nondecreasing.ensures ∙ c.if-is_nondecreasing.false) c.if-is_nondecreasing.false
 
-pub may-prune-spec : {M : Type 1} → statement M
-may-prune-spec = tie.close (tie.spec is-nondecreasing-requires has-room-requires returns returns-2)
+pub may_prune_spec : {M : Type 1} → statement M
+may_prune_spec = tie.close (tie.spec is_nondecreasing-requires has_room-requires returns-then-is_nondecreasing returns-else-is_nondecreasing)

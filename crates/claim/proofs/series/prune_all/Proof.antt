@@ -13,165 +13,159 @@ use Rattle.claim.proofs.Pruning.{Going, going_on, begun, ended, Prunes, goes_thr
 use Rattle.claim.proofs.series.prune_all.Statement.{statement}
 use Rattle.claim.proofs.series.prune_all.Tie as tie
 
-abbrev invariant-loop : tie.invariant-loop
-invariant-loop clocks k reports₀ counts₀ ledger₀ between₀ fallen₀ written₀ i₀ reports counts ledger between fallen written i =
+abbrev invariant-loop-i : tie.invariant-loop-i
+invariant-loop-i clocks k reports₀ counts₀ ledger₀ between₀ fallen₀ written₀ i₀ reports counts ledger between fallen written i =
     Going clocks (contents ledger₀) reports₀ reports counts₀ counts ledger between fallen written i k
 
-abbrev decreases-loop : tie.decreases-loop
-decreases-loop clocks k reports₀ counts₀ ledger₀ between₀ fallen₀ written₀ i₀ reports counts ledger between fallen written i =
+abbrev decreases-loop-i : tie.decreases-loop-i
+decreases-loop-i clocks k reports₀ counts₀ ledger₀ between₀ fallen₀ written₀ i₀ reports counts ledger between fallen written i =
     length clocks - i
 
 -- found here, where there is less to search
-next_fits : (c : tie.After-clock-at invariant-loop decreases-loop) → Fits w64 (c.before.before.loop.i + 1)
+next_fits : (c : tie.After-clock_at-clock invariant-loop-i decreases-loop-i) → Fits w64 (c.loop-i.i + 1)
 next_fits c = search rules
 
 -- the places of its two numbers
-twice_fits : (c : tie.After-clock-at invariant-loop decreases-loop) → Fits w64 (2 * c.before.before.loop.i)
+twice_fits : (c : tie.After-clock_at-clock invariant-loop-i decreases-loop-i) → Fits w64 (2 * c.loop-i.i)
 twice_fits c = search rules
 
-place-fits : (c : tie.After-clock-at invariant-loop decreases-loop) → Fits w64 (2 * c.before.before.loop.i * 8)
+place-fits : (c : tie.After-clock_at-clock invariant-loop-i decreases-loop-i) → Fits w64 (2 * c.loop-i.i * 8)
 place-fits c = search rules
 
-after-fits : (c : tie.After-clock-at invariant-loop decreases-loop) → Fits w64 (2 * c.before.before.loop.i + 1)
+after-fits : (c : tie.After-clock_at-clock invariant-loop-i decreases-loop-i) → Fits w64 (2 * c.loop-i.i + 1)
 after-fits c = search rules
 
-second_fits : (c : tie.After-clock-at invariant-loop decreases-loop) → Fits w64 ((2 * c.before.before.loop.i + 1) * 8)
+second_fits : (c : tie.After-clock_at-clock invariant-loop-i decreases-loop-i) → Fits w64 ((2 * c.loop-i.i + 1) * 8)
 second_fits c = search rules
 
 -- what the prune of a turn says, its clock being a time and its list long enough
-turn : (c : tie.After-prune invariant-loop decreases-loop) →
-    let l = c.before.before.before.before.loop in
-    Prunes (get_or c.before.before.before.before.before.before.before.before.args.clocks.now l.i 0) (contents l.ledger)
-    (take (length l.reports - 3 * l.written) (drop (3 * l.written) l.reports)) c.prune.new.1.1.0 c.prune.result
+turn : (c : tie.After-prune-done invariant-loop-i decreases-loop-i) →
+    let l = c.loop-i in
+    Prunes (get_or c.args.clocks.now l.i 0) (contents l.ledger)
+    (take (length l.reports - 3 * l.written) (drop (3 * l.written) l.reports)) c.prune-done.new.lent c.prune-done.result
 turn c =
-    let a = c.before.before in
-    let l = a.before.before.loop in
-    let s = a.before.before.before.before.before.before in
+    let l = c.loop-i in
     let room : 3 * length (contents l.ledger).entries ≤ length (take (length l.reports - 3 * l.written) (drop (3 * l.written) l.reports)) =
     simp (length-take, length-drop) (omega (arith, l.invariant.room)) in
-    let clock = a.clock-at.ensures in
-    goes_through _ _ _ _ _ (all-at is_time 0 s.args.clocks.now l.i (omega arith) s.requires.1) room (rw clock at c.prune.ensures)
+    let clock = c.clock_at-clock.ensures in
+    goes_through _ _ _ _ _ (all-at is_time 0 c.args.clocks.now l.i (omega arith) c.requires.1) room (rw clock at c.prune-done.ensures)
 
-loop-holds : tie.Need-loop-init invariant-loop decreases-loop
-loop-holds c =
-    let s = c.before.before.before in
-    begun _ _ _ _ _ s.requires.0 s.requires.2 s.requires.3
+loop-i-init : tie.Need-loop-i-init invariant-loop-i decreases-loop-i
+loop-i-init c =
+    begun _ _ _ _ _ c.requires.0 c.requires.2 c.requires.3
 
-clock-at-requires : tie.Need-clock-at-requires invariant-loop decreases-loop
-clock-at-requires c κs = search rules
+clock_at-clock-requires : tie.Need-clock_at-clock-requires invariant-loop-i decreases-loop-i
+clock_at-clock-requires c κs = search rules
 
-mul_at : tie.Need-overflow-mul-at invariant-loop decreases-loop
-mul_at c = search rules
+overflow_mul-at : tie.Need-overflow_mul-at invariant-loop-i decreases-loop-i
+overflow_mul-at c = search rules
 
-mul-prune : tie.Need-overflow-mul-prune invariant-loop decreases-loop
-mul-prune c = search rules
+offset_bounds-reports-at : tie.Need-offset_bounds-reports-at invariant-loop-i decreases-loop-i
+offset_bounds-reports-at c = search rules
 
-sub-prune : tie.Need-overflow-sub-prune invariant-loop decreases-loop
-sub-prune c = search rules
+slice_bounds-prune-count : tie.Need-slice_bounds-prune-count invariant-loop-i decreases-loop-i
+slice_bounds-prune-count c = search rules
 
-part-prune-start : tie.Need-slice-bounds-prune-start invariant-loop decreases-loop
-part-prune-start c = search rules
+slice_bounds-prune-start : tie.Need-slice_bounds-prune-start invariant-loop-i decreases-loop-i
+slice_bounds-prune-start c = search rules
 
-part-prune-end : tie.Need-slice-bounds-prune-end invariant-loop decreases-loop
-part-prune-end c = search rules
+slice_bounds-prune-end : tie.Need-slice_bounds-prune-end invariant-loop-i decreases-loop-i
+slice_bounds-prune-end c = search rules
 
-prune-requires : tie.Need-prune-requires invariant-loop decreases-loop
-prune-requires c κs = search rules
+prune-done-requires : tie.Need-prune-done-requires invariant-loop-i decreases-loop-i
+prune-done-requires c κs = search rules
 
-element-copy-out-reported : tie.Need-element-copy-out-reported invariant-loop decreases-loop
-element-copy-out-reported c = search rules
+bounds-done-0 : tie.Need-bounds-done-0 invariant-loop-i decreases-loop-i
+bounds-done-0 c = search rules
 
-element-copy-out-gone : tie.Need-element-copy-out-gone invariant-loop decreases-loop
-element-copy-out-gone c = search rules
+bounds-done-1 : tie.Need-bounds-done-1 invariant-loop-i decreases-loop-i
+bounds-done-1 c = search rules
 
-mul-counts : tie.Need-overflow-mul-counts invariant-loop decreases-loop
-mul-counts c = twice_fits c.before.before.before.before.before.before
+overflow_mul-counts : tie.Need-overflow_mul-counts invariant-loop-i decreases-loop-i
+overflow_mul-counts c = twice_fits c.before.before.before.before.before.before
 
-mul-counts-2 : tie.Need-overflow-mul-counts-2 invariant-loop decreases-loop
-mul-counts-2 c = place-fits c.before.before.before.before.before.before
+offset_bounds-counts-i : tie.Need-offset_bounds-counts-i invariant-loop-i decreases-loop-i
+offset_bounds-counts-i c = place-fits c.before.before.before.before.before.before
 
-slice-write-counts : tie.Need-slice-write-counts invariant-loop decreases-loop
-slice-write-counts c = search rules
+bounds-counts-i : tie.Need-bounds-counts-i invariant-loop-i decreases-loop-i
+bounds-counts-i c = search rules
 
-mul-counts-3 : tie.Need-overflow-mul-counts-3 invariant-loop decreases-loop
-mul-counts-3 c = twice_fits c.before.before.before.before.before.before
+overflow_mul-counts-in-loop-i : tie.Need-overflow_mul-counts-in-loop-i invariant-loop-i decreases-loop-i
+overflow_mul-counts-in-loop-i c = twice_fits c.before.before.before.before.before.before
 
-add-counts : tie.Need-overflow-add-counts invariant-loop decreases-loop
-add-counts c = after-fits c.before.before.before.before.before.before
+overflow_add-counts : tie.Need-overflow_add-counts invariant-loop-i decreases-loop-i
+overflow_add-counts c = after-fits c.before.before.before.before.before.before
 
-mul-counts-4 : tie.Need-overflow-mul-counts-4 invariant-loop decreases-loop
-mul-counts-4 c = second_fits c.before.before.before.before.before.before
+offset_bounds-counts-i-in-loop-i : tie.Need-offset_bounds-counts-i-in-loop-i invariant-loop-i decreases-loop-i
+offset_bounds-counts-i-in-loop-i c = second_fits c.before.before.before.before.before.before
 
-slice-write-counts-2 : tie.Need-slice-write-counts-2 invariant-loop decreases-loop
-slice-write-counts-2 c = simp length-set (omega arith)
+bounds-counts-i-in-loop-i : tie.Need-bounds-counts-i-in-loop-i invariant-loop-i decreases-loop-i
+bounds-counts-i-in-loop-i c = simp length-set (omega arith)
 
-either-requires : tie.Need-either-requires invariant-loop decreases-loop
-either-requires c κs = search rules
+either-between-requires : tie.Need-either-between-requires invariant-loop-i decreases-loop-i
+either-between-requires c κs = search rules
 
-add-fallen : tie.Need-overflow-add-fallen invariant-loop decreases-loop
-add-fallen c =
-    let q = c.before.before.before.before.before.before in
-    let t = turn q in
-    let l = q.before.before.before.before.loop in
+overflow_add-fallen : tie.Need-overflow_add-fallen invariant-loop-i decreases-loop-i
+overflow_add-fallen c =
+    let t = turn c.before.before.before.before.before.before in
+    let l = c.loop-i in
     omega (arith, t.few, t.size, l.invariant.few, l.invariant.fits)
 
-add-written : tie.Need-overflow-add-written invariant-loop decreases-loop
-add-written c =
-    let q = c.before.before.before.before.before.before in
-    let t = turn q in
-    let l = q.before.before.before.before.loop in
+overflow_add-written : tie.Need-overflow_add-written invariant-loop-i decreases-loop-i
+overflow_add-written c =
+    let t = turn c.before.before.before.before.before.before in
+    let l = c.loop-i in
     omega (arith, t.few, t.size, l.invariant.few, l.invariant.fits)
 
-add-i : tie.Need-overflow-add-i invariant-loop decreases-loop
-add-i c = next_fits c.before.before.before.before.before.before.before.before
+overflow_add-i : tie.Need-overflow_add-i invariant-loop-i decreases-loop-i
+overflow_add-i c = next_fits c.before.before.before.before.before.before.before.before
 
-loop-less : tie.Need-loop-smaller invariant-loop decreases-loop
-loop-less c = search rules
+loop-i-smaller : tie.Need-loop-i-smaller invariant-loop-i decreases-loop-i
+loop-i-smaller c = search rules
 
-loop-again : tie.Need-loop-preserved invariant-loop decreases-loop
-loop-again c =
-    let q = c.before.before.before.before.before.before in
-    let l = q.before.before.before.before.loop in
-    going_on _ _ _ _ _ _ _ _ _ _ l.i _ l.invariant (omega arith) _ _ _ (turn q) c.either.ensures q.prune.auto.1.1.0
+loop-i-preserved : tie.Need-loop-i-preserved invariant-loop-i decreases-loop-i
+loop-i-preserved c =
+    let l = c.loop-i in
+    going_on _ _ _ _ _ _ _ _ _ _ l.i _ l.invariant (omega arith) _ _ _ (turn c.before.before.before.before.before.before) c.either-between.ensures c.prune-done.auto.lent
 
-same_length : tie.Need-same-length invariant-loop decreases-loop
-same_length c = search rules
+shape_of-reports : tie.Need-shape_of-reports invariant-loop-i decreases-loop-i
+shape_of-reports c = search rules
 
-same-length-2 : tie.Need-same-length-2 invariant-loop decreases-loop
-same-length-2 c = search rules
+shape_of-counts : tie.Need-shape_of-counts invariant-loop-i decreases-loop-i
+shape_of-counts c = search rules
 
-returns : tie.Need-returns invariant-loop decreases-loop
-returns c = ended _ _ _ _ _ _ _ _ _ _ c.before.loop.i _ c.before.loop.invariant (omega arith)
+returns : tie.Need-returns invariant-loop-i decreases-loop-i
+returns c = ended _ _ _ _ _ _ _ _ _ _ c.loop-i.i _ c.loop-i.invariant (omega arith)
 
-pub prune-all-spec : {M : Type 1} → statement M
-prune-all-spec =
+pub prune_all_spec : {M : Type 1} → statement M
+prune_all_spec =
     tie.close
     (tie.spec
-    invariant-loop
-    decreases-loop
-    loop-holds
-    clock-at-requires
-    mul_at
-    mul-prune
-    sub-prune
-    part-prune-start
-    part-prune-end
-    prune-requires
-    element-copy-out-reported
-    element-copy-out-gone
-    mul-counts
-    mul-counts-2
-    slice-write-counts
-    mul-counts-3
-    add-counts
-    mul-counts-4
-    slice-write-counts-2
-    either-requires
-    add-fallen
-    add-written
-    add-i
-    loop-less
-    loop-again
-    same_length
-    same-length-2
+    invariant-loop-i
+    decreases-loop-i
+    loop-i-init
+    clock_at-clock-requires
+    overflow_mul-at
+    offset_bounds-reports-at
+    slice_bounds-prune-count
+    slice_bounds-prune-start
+    slice_bounds-prune-end
+    prune-done-requires
+    bounds-done-0
+    bounds-done-1
+    overflow_mul-counts
+    offset_bounds-counts-i
+    bounds-counts-i
+    overflow_mul-counts-in-loop-i
+    overflow_add-counts
+    offset_bounds-counts-i-in-loop-i
+    bounds-counts-i-in-loop-i
+    either-between-requires
+    overflow_add-fallen
+    overflow_add-written
+    overflow_add-i
+    loop-i-smaller
+    loop-i-preserved
+    shape_of-reports
+    shape_of-counts
     returns)
