@@ -1,4 +1,6 @@
 // Runs call scripts: reads a script on standard input, makes its calls on the ledger, and writes a line of answer for each.
+#![tactic(auto)]
+
 mod changing;
 mod dump;
 mod entries;

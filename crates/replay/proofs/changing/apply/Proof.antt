@@ -5,8 +5,8 @@ use mathlib.Core.Path.{◌≡◌, ◌∙◌}
 use native.Mathlib.Omega.{arith}
 use lib.ListN.{length, take, length-take}
 use Rattle.replay.proofs.Replied.{changed}
-use Rattle.replay.proofs.changing.apply-done.Statement.{statement}
-use Rattle.replay.proofs.changing.apply-done.Tie as tie
+use Rattle.replay.proofs.changing.apply.Statement.{statement}
+use Rattle.replay.proofs.changing.apply.Tie as tie
 
 overflow_sub-kind : tie.Need-overflow_sub-kind
 overflow_sub-kind c = search rules
@@ -51,9 +51,9 @@ returns : tie.Need-returns
 returns c =
     let n = c.args.line.lent in
     let all : length (take n c.args.lent.now) ≡ n = simp length-take (omega (arith, c.requires.0.1.words, c.requires.1.0)) in
-    let size : length c.fill.new.0 ≡ n = c.fill.auto.0 ∙ all in
+    let size : length c.fill.new.lent ≡ n = c.fill.auto.lent ∙ all in
     rw c.put_down.ensures
-    (changed c.args.line c.args.numbers.now _ _ _ c.args.lent.now c.fill.new.0 _ c.apply-done.result c.turns_of.ensures c.fill.ensures size (c.apply-done.auto.1.1.1.0 ∙ size) c.apply-done.ensures)
+    (changed c.args.line c.args.numbers.now _ _ _ c.args.lent.now c.fill.new.lent _ c.apply-done.result c.turns_of.ensures c.fill.ensures size (c.apply-done.auto.lent ∙ size) c.apply-done.ensures)
 
 pub apply_spec : {M : Type 1} → statement M
 apply_spec =

@@ -11,8 +11,8 @@ use Rattle.readings.specs.Reads.{Reads}
 use Rattle.dispatch.specs.Reading.{reading_of}
 use Rattle.replay.specs.Lines.{filled, answer_by}
 use Rattle.replay.proofs.Replied.{asked_once, asked, some_turn}
-use Rattle.replay.proofs.reading.ask-answer.Statement.{statement}
-use Rattle.replay.proofs.reading.ask-answer.Tie as tie
+use Rattle.replay.proofs.reading.ask.Statement.{statement}
+use Rattle.replay.proofs.reading.ask.Tie as tie
 
 abbrev invariant-loop-left : tie.invariant-loop-left
 invariant-loop-left ledger numbers times said₀ kind count words n list₀ left₀ reply list left =
@@ -67,7 +67,7 @@ loop-left-smaller c = search rules
 loop-left-preserved : tie.Need-loop-left-preserved invariant-loop-left decreases-loop-left
 loop-left-preserved c =
     let l = c.loop-left in
-    (omega arith, c.ask-answer.auto.1.1.1.0 ∙ c.fill.auto.0 ∙ l.invariant.1, simp length-set l.invariant.2, λ h. asked_once _ _ _ (take c.args.line.lent c.args.lent.now) l.list _ _ l.reply c.ask-answer.result l.invariant.2 l.invariant.1 c.fill.ensures c.ask-answer.ensures)
+    (omega arith, c.ask-answer.auto.lent ∙ c.fill.auto.lent ∙ l.invariant.1, simp length-set l.invariant.2, λ h. asked_once _ _ _ (take c.args.line.lent c.args.lent.now) l.list _ _ l.reply c.ask-answer.result l.invariant.2 l.invariant.1 c.fill.ensures c.ask-answer.ensures)
 
 shape_of-lent : tie.Need-shape_of-lent invariant-loop-left decreases-loop-left
 shape_of-lent c = search rules
