@@ -15,14 +15,12 @@ use types::Shard;
 // Line by line to the end of the script, or to a line that is malformed or names a call that is not there. `times` is 0 unless
 // a `repeat` waits for its call. No script has 2^64 lines.
 fn main(rt: HostRuntime) {
-    let mut stdin = rt.stdin();
-    let mut stdout = rt.stdout();
+    let (mut stdin, mut stdout) = (rt.stdin(), rt.stdout());
     let mut input = [0u8; 65536];
     let mut output = [0u8; 65536];
     let mut numbers = [0u64; 2048];
     let mut lent = [0u64; 4096];
-    let made = making::new(Shard(0), 0, 0, 0);
-    let mut ledger = made.ledger;
+    let mut ledger = making::new(Shard(0), 0, 0, 0).ledger;
     let mut lines = script::begin();
     let mut out = script::no_text();
     let mut times: u64 = 0;

@@ -57,8 +57,8 @@ returns-in-At : tie.Need-returns-in-At
 returns-in-At c =
     let small : c.args.code ≤ 2 = omega arith in
     let same : c.args.code % 256 ≡ c.args.code = omega arith in
-    certify-owed c.args.ledger c.requires (number_of c.args.tx) c.args.code small c.in-At.slot (lies c.before.before) _ c.«with_certificate».result
-    (rw same at c.«with_certificate».ensures)
+    certify-owed c.args.ledger c.requires (number_of c.args.tx) c.args.code small c.in-At.slot (lies c.before.before) _ c.with_certificate.result
+    (rw same at c.with_certificate.ensures)
 
 pub certify_spec : {M : Type 1} → statement M
 certify_spec =

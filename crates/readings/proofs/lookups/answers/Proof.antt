@@ -35,7 +35,7 @@ is_absent-requires : tie.Need-is_absent-requires
 unfolding contents
 is_absent-requires c κs =
     let none : c.question_refusal-no.result ≡ 0 = omega arith in
-    let t = timely (question 0 c.args.shard.0 0 c.args.at.0 c.args.end.0) c.args.«read_at».0 (sym c.question_refusal-no.ensures ∙ none) in
+    let t = timely (question 0 c.args.shard.0 0 c.args.at.0 c.args.end.0) c.args.read_at.0 (sym c.question_refusal-no.ensures ∙ none) in
     let v = c.args.ledger.core_span in
     (t, omega (arith, leb-true v (2 ^ 40) (and_right (leb 1 v) (leb v (2 ^ 40)) c.requires.good.frame.core_span)))
 

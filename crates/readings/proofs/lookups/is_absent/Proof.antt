@@ -24,7 +24,7 @@ overflow_add-result c = search rules
 returns : tie.Need-returns
 returns c =
     let a = c.args in
-    follows _ _ _ (eq-eqb a.inclusion 0 (omega arith)) (follows _ _ _ (le-leb a.at.0 a.«read_at».0 (omega arith)) refl)
+    follows _ _ _ (eq-eqb a.inclusion 0 (omega arith)) (follows _ _ _ (le-leb a.at.0 a.read_at.0 (omega arith)) refl)
 
 pub is_absent_spec : {M : Type 1} → statement M
 is_absent_spec = tie.close (tie.spec returns-then-inclusion-gt0 returns-then-read_at-at overflow_add-result returns)
