@@ -1,5 +1,7 @@
 // What every reading of a ledger says and how it says it, and the lookups. None changes the ledger, which is handed in by value and stays
 // the caller's. The readings that are lent a list stand in `entry_lists` and `shard_lists`.
+#![tactic(auto)]
+
 pub mod lookups;
 pub mod reply;
 
