@@ -86,13 +86,13 @@ module _ (ws : List ℕ) (found : Found) (n r : ℕ) (e : r ≡ words_refusal ws
       go zero e q = absurd (omega arith)
       go (suc k) e q = sym (lines_first (admission_formed ws) (admission_timed ws) (admission_placed ws) (room_refusal found n) k (sym e))
 
-  pub room-last : r ≤ 0 → (m : ℕ) → m ≡ room_refusal found n → m ≡ table_refusal ws found n
-  room-last q m u =
+  pub room_last : r ≤ 0 → (m : ℕ) → m ≡ room_refusal found n → m ≡ table_refusal ws found n
+  room_last q m u =
       let z : words_refusal ws ≡ 0 = omega arith in
       u ∙ sym (lines_pass (admission_formed ws) (admission_timed ws) (admission_placed ws) (room_refusal found n) z)
 
-pub found-says : (found : Found) (k n : ℕ) → found ≡ At k → 0 ≡ room_refusal found n
-found-says found k n e = rw e
+pub found_says : (found : Found) (k n : ℕ) → found ≡ At k → 0 ≡ room_refusal found n
+found_says found k n e = rw e
 
 pub full_says : (found : Found) (n : ℕ) → found ≡ Nothing → 48 ≤ n → 6 ≡ room_refusal found n
 full_says found n e h = rw (e, le-leb 48 n h)

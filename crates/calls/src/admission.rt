@@ -58,6 +58,7 @@ fn refused_words(words: &[u64]) -> u64
 }
 
 // The number by which an admission is turned away, 0 for none; found and len are what the roster says of its transaction.
+#[tactic(auto, using(crate::proofs::Admitting::words_first, crate::proofs::Admitting::room_last, crate::proofs::Admitting::found_says, crate::proofs::Admitting::full_says, crate::proofs::Admitting::free_says))]
 fn refusal(words: &[u64], found: Found, len: usize) -> u64
     ensures { result ≡ table_refusal words.now found len }
 {

@@ -63,10 +63,10 @@ issued-count : (local : ℕ) (t : Terms) → length (issued local t) ≤ length 
 issued-count local t =
     omega (arith, length-map (edges_from local t) (λ (g : Edge). record_key g.id), length-keep (λ (g : Edge). eqb g.from local) t.edges)
 
-pub issued-room : (e : Entry) (local r : ℕ) → Fits e → GoodEntry local (plain_entry e) → is_settling (plain_part e.part) ≡ true →
+pub issued_room : (e : Entry) (local r : ℕ) → Fits e → GoodEntry local (plain_entry e) → is_settling (plain_part e.part) ≡ true →
     issues local r (plain_entry e).terms ≡ true → RoomForMark r e
 unfolding plain_entry
-issued-room e local r fits good settling known =
+issued_room e local r fits good settling known =
     let t = (plain_entry e).terms in
     let m = (plain_entry e).marks in
     let q = marked_of (plain_part e.part) local t m e.returned settling good.part in

@@ -177,6 +177,7 @@ impl Entry {
     }
 
     // The entry with a certificate of at least this code.
+    #[tactic(auto, unfolding(crate::specs::Entry::plain_entry))]
     pub fn with_certificate(self, code: u8) -> Entry
         requires { Fits self }
         ensures { Means (certified code (plain_entry self)) result }
@@ -324,6 +325,7 @@ impl Entry {
     }
 
     // The entry with this record settled, or returned: only where it issued the record and waits for its settlement.
+    #[tactic(auto, using(crate::proofs::Put::issued_room), unfolding(crate::specs::Entry::plain_entry))]
     pub fn with_mark(self, local: Shard, r: RecordKey, is_return: bool) -> Entry
         requires { Fits self × GoodEntry local.0 (plain_entry self) }
         ensures { Means (marked local.0 r.0 is_return (plain_entry self)) result }

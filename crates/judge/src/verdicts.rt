@@ -123,10 +123,11 @@ pub fn judge<'a>(
     let departed_by = e.departed_by;
     let settles = is_settling(part, e.absences_len);
     let named = 0 < departed_by.0;
+    let by_window = settles; // rule 2, ahead of rule 3
     if is_awaiting(part, e.certified) {
         return Verdict::Stands;
     }
-    if settles {
+    if by_window {
         return quiet_unless(time.0 < e.at.0 + leg_span);
     }
     if named {

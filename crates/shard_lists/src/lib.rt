@@ -209,6 +209,7 @@ fn beyond(e: Entry, on_file: Departures, local: Shard, d: u32, items: &mut [u64;
     with_trie(items, m, &far, n, d)
 }
 
+#[tactic(auto, using(crate::proofs::Listed::too_deep))]
 pub fn counterparts(ledger: Ledger, tx: Transaction, depth: u64, lent: &mut [u64]) -> Answer
     requires { Held ledger }
     ensures { Reads (read (rules.list_counterparts (number_of tx) depth (length lent.old)) (contents ledger)) lent.old lent.new result }

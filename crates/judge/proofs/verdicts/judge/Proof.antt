@@ -50,12 +50,12 @@ overflow_add-e c =
 quiet_unless-requires : tie.Need-quiet_unless-requires
 quiet_unless-requires c κs = search rules
 
-returns-then-settles : tie.Need-returns-then-settles
+returns-then-by_window : tie.Need-returns-then-by_window
 unfolding plain_entry
-returns-then-settles c p faces =
+returns-then-by_window c p faces =
     let s = c.args in
     let e = plain_entry s.e in
-    let fits = rule_2 p.local e (unawaited c.before.before.before.before) (settled c.before.before.before.before.before.before.before ∙ c.if-settles.true) in
+    let fits = rule_2 p.local e (unawaited c.before.before.before.before) (settled c.before.before.before.before.before.before.before ∙ c.if-by_window.true) in
     let same = c.quiet_unless.ensures ∙ ap (λ m. quiet_unless (ltb s.time.0 (s.e.at.0 + m))) (sym faces.leg_span) in
     subst (λ v. Says v p s.time.0 e) (sym same) (says_quiet p s.time.0 e settling fits refl)
 
@@ -71,7 +71,7 @@ returns-then-named c p faces =
     let s = c.args in
     let e = plain_entry s.e in
     let named = c.if-named.true-raw in
-    let fits = rule_3 p.local e (unawaited c.before.before.before.before) (settled c.before.before.before.before.before.before.before ∙ c.if-settles.false) named in
+    let fits = rule_3 p.local e (unawaited c.before.before.before.before) (settled c.before.before.before.before.before.before.before ∙ c.if-by_window.false) named in
     let same = c.reported_unless.ensures ∙ ap (reported_unless 1) (c.named_readable.ensures p.departures s.time.0 _ _ e faces.view refl named) in
     subst (λ v. Says v p s.time.0 e) (sym same) (says_reported p s.time.0 e recorded fits refl)
 
@@ -85,7 +85,7 @@ unfolding plain_entry
 returns c p faces =
     let s = c.args in
     let e = plain_entry s.e in
-    let fits = rule_4_or_5 p.local e (unawaited c.before.before.before) (settled c.before.before.before.before.before.before ∙ c.if-settles.false) c.if-named.false-raw in
+    let fits = rule_4_or_5 p.local e (unawaited c.before.before.before) (settled c.before.before.before.before.before.before ∙ c.if-by_window.false) c.if-named.false-raw in
     subst (λ v. Says v p s.time.0 e) (sym (c.by_routes.ensures p s.leg_span faces)) (says-routes p s.time.0 e fits)
 
 pub judge_spec : {M : Type 1} → statement M
@@ -97,7 +97,7 @@ judge_spec =
     returns-then-is_awaiting
     overflow_add-e
     quiet_unless-requires
-    returns-then-settles
+    returns-then-by_window
     named_readable-requires
     reported_unless-requires
     returns-then-named
