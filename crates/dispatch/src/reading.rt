@@ -33,6 +33,7 @@ pub fn ask(ledger: Ledger, kind: u64, words: &[u64], lent: &mut [u64]) -> Answer
 }
 
 // A lookup: a reading that is lent no list.
+#[tactic(auto, unfolding(crate::specs::Reading::lookup_of))]
 fn look_up(ledger: Ledger, kind: u64, words: &[u64]) -> Answer
     requires { Held ledger }
     ensures { Reads (read (lookup_of kind words.now) (contents ledger)) [] [] result }

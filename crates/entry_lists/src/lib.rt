@@ -120,7 +120,8 @@ fn is_past(e: Entry, validity: u64, time: Time) -> bool
     if e.covered() {
         return true;
     }
-    e.certified < 2 || time.0 < e.at.0 + validity
+    let is_unexecuted = e.certified < 2;
+    is_unexecuted || time.0 < e.at.0 + validity
 }
 
 fn gather_past(ledger: Ledger, time: Time, words: &mut [u64; TERMS_ROOM]) -> usize

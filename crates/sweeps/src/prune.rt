@@ -71,7 +71,8 @@ fn with_needs<'a>(
     let mut out = flags;
     let mut j: usize = 0;
     while j < n {
-        if out[j] {
+        let raised = out[j];
+        if raised {
             j += 1;
         } else {
             out[j] = needs(e, local, Shard(shards[j]), zeros[j], Time(cuts[j]));

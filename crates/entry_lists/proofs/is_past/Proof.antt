@@ -33,18 +33,18 @@ returns-then-covered c =
 overflow_add-result : tie.Need-overflow_add-result
 overflow_add-result c = search rules
 
-returns-then-e-lt2 : tie.Need-returns-then-e-lt2
+returns-then-is_unexecuted : tie.Need-returns-then-is_unexecuted
 unfolding plain_entry
-returns-then-e-lt2 c =
-    lt-ltb _ _ c.if-e-lt2.true
+returns-then-is_unexecuted c =
+    lt-ltb _ _ c.if-is_unexecuted.true
     ∙ third_tells _ _ _ _ (ap not (sym c.is_settling.ensures ∙ c.if-is_settling.false)) (le-leb _ _ c.if-time-e.false)
-    (second_holds _ _ _ (sym c.covered.ensures ∙ c.if-covered.false) (lt-ltb _ _ c.if-e-lt2.true))
+    (second_holds _ _ _ (sym c.covered.ensures ∙ c.if-covered.false) (lt-ltb _ _ c.if-is_unexecuted.true))
 
-returns-else-e-lt2 : tie.Need-returns-else-e-lt2
+returns-else-is_unexecuted : tie.Need-returns-else-is_unexecuted
 unfolding plain_entry
-returns-else-e-lt2 c =
+returns-else-is_unexecuted c =
     third_tells _ _ _ _ (ap not (sym c.is_settling.ensures ∙ c.if-is_settling.false)) (le-leb _ _ c.if-time-e.false)
-    (third_left _ _ _ _ (sym c.covered.ensures ∙ c.if-covered.false) (le-ltb _ _ c.if-e-lt2.false) refl)
+    (third_left _ _ _ _ (sym c.covered.ensures ∙ c.if-covered.false) (le-ltb _ _ c.if-is_unexecuted.false) refl)
 
 pub is_past_spec : {M : Type 1} → statement M
 is_past_spec =
@@ -56,5 +56,5 @@ is_past_spec =
     covered-requires
     returns-then-covered
     overflow_add-result
-    returns-then-e-lt2
-    returns-else-e-lt2)
+    returns-then-is_unexecuted
+    returns-else-is_unexecuted)
