@@ -26,7 +26,8 @@ const INTRODUCTION: [&str; 5] = [
     "Behind ± stands how far a figure scatters, where that is more than a tenth of it. Of a row in which it is more than a third no quotient \
      is told.",
     "On an empty ledger calls name transactions that are not owed. Where all fall or close, what the Rust frees drops out too: \
-     the making that begins either block would free it. `dump` is the script's own and is not timed.",
+     the making that begins either block would free it. Of makings that are repeated nothing is read but the last, so the compiler may make \
+     that one alone. `dump` is the script's own and is not timed.",
 ];
 
 /// How many times its error a figure must be to stand without it, and to be set against another.
@@ -45,6 +46,14 @@ impl Row {
     /// Whether both figures are more than their scatter.
     pub fn is_clear(&self) -> bool {
         self.rust.exceeds(CLEAR) && self.port.exceeds(CLEAR)
+    }
+}
+
+/// By which Rattle the port was built, where `beside/bench` tells it.
+fn built_by() -> String {
+    match std::env::var("RATTLE") {
+        Ok(kit) if !kit.is_empty() => format!("The port was built by `{kit}`."),
+        _ => String::new(),
     }
 }
 
@@ -81,7 +90,8 @@ impl Page {
         }
         self.say("");
         self.say(&format!(
-            "A hand-over is a copy of a ledger, {bytes} bytes, from one buffer to another: {hand_over} ns in this run."
+            "A hand-over is a copy of a ledger, {bytes} bytes, from one buffer to another: {hand_over} ns in this run. {}",
+            built_by()
         ));
     }
 
