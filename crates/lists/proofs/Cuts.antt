@@ -12,6 +12,7 @@ use borrow.Author.Tests.{leb-true, le-leb, ltb-true, lt-ltb}
 use lib.Dec.{ltb, leb}
 use lib.ListN.{length, take, drop, get_or, set, length-take, length-drop, drop_of_length-le}
 use lib.Seq.{drop-cons, take-suc-set, append_snoc, take-take, drop-drop, get_or-drop, get_or-take, take-nil, drop-nil}
+use Rattle.std.specs.List.{AllAdjacentBelow, IsAllAdjacentAnswer}
 use Rattle.lists.specs.Lists.{any, all, Every, all_of, total, zip_by, self, part, cut, above_all, ascending}
 use Rattle.lists.proofs.Tests.{and_left, and_right, and_both, and_true, and_false}
 
@@ -148,6 +149,23 @@ rises_end (x ∷ []) zero h = refl
 rises_end (x ∷ []) (suc i) h = rw (drop-nil i)
 rises_end (x ∷ y ∷ s) zero h = absurd (omega arith)
 rises_end (x ∷ y ∷ s) (suc i) h = rises_end (y ∷ s) i (omega arith)
+
+-- each and the next compared: what the library answers
+
+rises_each : (s : List ℕ) → AllAdjacentBelow (λ x y. true ≡ ltb x y) s (length s) → ascending self s ≡ true
+rises_each [] h = refl
+rises_each (x ∷ []) h = refl
+rises_each (x ∷ y ∷ l) h = rises_two x y l ∙ and_both (ltb x y) (ascending self (y ∷ l)) (sym (h 0 x (omega arith))) (rises_each (y ∷ l) (λ k d q. h (suc k) d (omega arith) ∙ ap (λ j. ltb (get_or (y ∷ l) k d) (get_or (x ∷ y ∷ l) j d)) (suc-add k 1)))
+
+rises_not : (s : List ℕ) (k : ℕ) → k + 1 < length s → ltb (get_or s k 0) (get_or s (k + 1) 0) ≡ false → ascending self s ≡ false
+rises_not [] k h t = absurd (omega arith)
+rises_not (x ∷ []) k h t = absurd (omega arith)
+rises_not (x ∷ y ∷ l) zero h t = rises_two x y l ∙ ap (λ b. b && ascending self (y ∷ l)) t
+rises_not (x ∷ y ∷ l) (suc k) h t = rises_two x y l ∙ ap (λ b. ltb x y && b) (rises_not (y ∷ l) k (omega arith) (sym (ap (λ j. ltb (get_or (y ∷ l) k 0) (get_or (x ∷ y ∷ l) j 0)) (suc-add k 1)) ∙ t)) ∙ and_false (ltb x y)
+
+pub rises_by : (s : List ℕ) (r : Bool) → IsAllAdjacentAnswer (λ x y b. b ≡ ltb x y) s r → r ≡ ascending self s
+rises_by s true h = sym (rises_each s h)
+rises_by s false h = sym (rises_not s h.0 h.1 (sym (h.2 0)))
 
 -- copying: the first i of out are written, what is still to come is drop i s
 

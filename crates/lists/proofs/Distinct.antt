@@ -226,6 +226,12 @@ module _ {A : Type 0} where
       keeping_by fs w (i + 1) n a ≡ keeping_by fs w i n a
   flag_down fs d a w i n h₁ h₂ h₃ t = rw (rest-cons false fs i n h₁ h₃, rest-cons d a i n h₁ h₂, t)
 
+  -- the same where no element is at hand
+  pub flag_low : (fs : List Bool) (a : List A) (w i n : ℕ) → i < n → n ≤ length a → n ≤ length fs → get_or fs i false ≡ false →
+      keeping_by fs w (i + 1) n a ≡ keeping_by fs w i n a
+  flag_low fs [] w i n h₁ h₂ h₃ t = absurd (omega arith)
+  flag_low fs (x ∷ a) w i n h₁ h₂ h₃ t = flag_down fs x (x ∷ a) w i n h₁ h₂ h₃ t
+
   pub flags_end : (fs : List Bool) (a : List A) (w i n : ℕ) → n ≤ i → n ≤ length fs → keeping_by fs w i n a ≡ take w a
   flags_end fs a w i n h₁ h₃ = rw (rest_end fs i n h₁ h₃) (simp append-nil)
 

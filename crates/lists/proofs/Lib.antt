@@ -15,5 +15,6 @@ pub mod Zip
 pub mod Cuts
 pub mod Counting
 pub mod Sets
+pub mod Std
 pub mod Listing
 pub mod Items

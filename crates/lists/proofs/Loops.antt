@@ -12,7 +12,7 @@ use borrow.Author.Tests.{eqb-true, eqb-false, ne_eqb, ltb-true, ltb-false, lt-lt
 use lib.Dec.{eqb, ltb}
 use lib.ListN.{length, take, drop, get_or, set, drop_of_length-le}
 use lib.Seq.{drop-cons, take-suc-set, drop-set-lt, take-append-le, length-take-le, take-take, get_or-take, append_snoc}
-use Rattle.lists.specs.declared.Found.TheVariants.{At, Nothing}
+use Rattle.std.specs.Prelude.{Some, None}
 use Rattle.lists.specs.Lists.{cons_if, any, at, has, get, without, change, include, Ascending}
 use Rattle.lists.specs.Arrays.{insert_at, remove_at, place, rank}
 use Rattle.lists.proofs.Order.{above_lacks}
@@ -20,11 +20,11 @@ use Rattle.lists.proofs.Change.{change_lacking}
 
 -- searching
 
-place-step : {A : Type 0} (p : A → Bool) (i : ℕ) (d : A) (l : List A) → i < length l → place p i (drop i l) ≡ cond (p (get_or l i d)) (At i) (place p (i + 1) (drop (i + 1) l))
+place-step : {A : Type 0} (p : A → Bool) (i : ℕ) (d : A) (l : List A) → i < length l → place p i (drop i l) ≡ cond (p (get_or l i d)) (Some i) (place p (i + 1) (drop (i + 1) l))
 unfolding place
 place-step p i d l h = rw (drop-cons l i d h, add-one)
 
-place_end : {A : Type 0} (p : A → Bool) (i : ℕ) (l : List A) → length l ≤ i → place p i (drop i l) ≡ Nothing
+place_end : {A : Type 0} (p : A → Bool) (i : ℕ) (l : List A) → length l ≤ i → place p i (drop i l) ≡ None
 unfolding place
 place_end p i l h = rw (drop_of_length-le l h)
 
@@ -38,7 +38,7 @@ rank-end p i l h = rw (drop_of_length-le l h) (omega arith)
 
 -- the same over the first n of an array, as a loop meets them. d is what the check reads past an array's end: write _
 
-pub place_hit : {A : Type 0} (p : A → Bool) (d : A) (a : List A) (i n : ℕ) → i < n → n ≤ length a → p (get_or a i d) ≡ true → place p i (drop i (take n a)) ≡ At i
+pub place_hit : {A : Type 0} (p : A → Bool) (d : A) (a : List A) (i n : ℕ) → i < n → n ≤ length a → p (get_or a i d) ≡ true → place p i (drop i (take n a)) ≡ Some i
 place_hit p d a i n h₁ h₂ t =
     let e₀ : length (take n a) ≡ n = length-take-le n a h₂ in
     rw (place-step p i d (take n a) (omega arith), get_or-take n a i d h₁, t)
@@ -48,7 +48,7 @@ place_miss p d a i n h₁ h₂ t =
     let e₀ : length (take n a) ≡ n = length-take-le n a h₂ in
     rw (place-step p i d (take n a) (omega arith), get_or-take n a i d h₁, t)
 
-pub place-done : {A : Type 0} (p : A → Bool) (a : List A) (i n : ℕ) → n ≤ i → n ≤ length a → place p i (drop i (take n a)) ≡ Nothing
+pub place-done : {A : Type 0} (p : A → Bool) (a : List A) (i n : ℕ) → n ≤ i → n ≤ length a → place p i (drop i (take n a)) ≡ None
 place-done p a i n h₁ h₂ = place_end p i (take n a) (omega (arith, length-take-le n a h₂))
 
 pub rank_hit : {A : Type 0} (p : A → Bool) (d : A) (a : List A) (i n : ℕ) → i < n → n ≤ length a → p (get_or a i d) ≡ true → i + 1 + rank p (drop (i + 1) (take n a)) ≡ i + rank p (drop i (take n a))
@@ -116,7 +116,7 @@ module _ {A : Type 0} (key : A → ℕ) (t : ℕ) where
       go true q ih = absurd (true≢false q)
       go false q ih = ap (λ m. x ∷ m) (ih q)
 
-  located_from : (l : List A) (k i : ℕ) → place (at key t) k l ≡ At i → (j : ℕ) × (i ≡ k + j) × Located key t l j
+  located_from : (l : List A) (k i : ℕ) → place (at key t) k l ≡ Some i → (j : ℕ) × (i ≡ k + j) × Located key t l j
   unfolding place
   located_from [] k i e = absurd (let z : ◌≡◌ {A = ℕ} 0 1 = cc in omega arith)
   located_from (x ∷ l) k i e = go (eqb (key x) t) refl e (located_from l (suc k) i)
@@ -124,8 +124,8 @@ module _ {A : Type 0} (key : A → ℕ) (t : ℕ) where
       after : eqb (key x) t ≡ true → Ascending key (x ∷ l) → has key t l ≡ false
       after u a = above_lacks key t (key x) l (omega (arith, eqb-true (key x) t u)) a.0
 
-      go : (b : Bool) → eqb (key x) t ≡ b → cond b (At k) (place (at key t) (suc k) l) ≡ At i →
-          (place (at key t) (suc k) l ≡ At i → (j : ℕ) × (i ≡ suc k + j) × Located key t l j) → (j : ℕ) × (i ≡ k + j) × Located key t (x ∷ l) j
+      go : (b : Bool) → eqb (key x) t ≡ b → cond b (Some k) (place (at key t) (suc k) l) ≡ Some i →
+          (place (at key t) (suc k) l ≡ Some i → (j : ℕ) × (i ≡ suc k + j) × Located key t l j) → (j : ℕ) × (i ≡ k + j) × Located key t (x ∷ l) j
       go true u q f = (
         0,
         (let z : k ≡ i = cc in omega arith),
@@ -152,15 +152,15 @@ module _ {A : Type 0} (key : A → ℕ) (t : ℕ) where
             },
           )
 
-  pub located : (l : List A) (i : ℕ) → place (at key t) 0 l ≡ At i → Located key t l i
+  pub located : (l : List A) (i : ℕ) → place (at key t) 0 l ≡ Some i → Located key t l i
   located l i e = let (j, q, r) = located_from l 0 i e in subst (λ n. Located key t l n) (let z : j ≡ i = omega (arith, q) in z) r
 
-  lacking : (k : ℕ) (l : List A) → place (at key t) k l ≡ Nothing → has key t l ≡ false
+  lacking : (k : ℕ) (l : List A) → place (at key t) k l ≡ None → has key t l ≡ false
   unfolding place
   lacking k [] e = refl
   lacking k (x ∷ l) e = go (eqb (key x) t) e (lacking (suc k) l)
     where
-      go : (b : Bool) → cond b (At k) (place (at key t) (suc k) l) ≡ Nothing → (place (at key t) (suc k) l ≡ Nothing → has key t l ≡ false) → b || has key t l ≡ false
+      go : (b : Bool) → cond b (Some k) (place (at key t) (suc k) l) ≡ None → (place (at key t) (suc k) l ≡ None → has key t l ≡ false) → b || has key t l ≡ false
       go true q f = absurd (let z : ◌≡◌ {A = ℕ} 0 1 = cc in omega arith)
       go false q f = f q
 
@@ -172,7 +172,7 @@ module _ {A : Type 0} (key : A → ℕ) (t : ℕ) where
       go true q ih = absurd (true≢false q)
       go false q ih = ih q
 
-  pub missing : (l : List A) → place (at key t) 0 l ≡ Nothing → Missing key t l
+  pub missing : (l : List A) → place (at key t) 0 l ≡ None → Missing key t l
   missing l e =
       let h = lacking 0 l e in
       record { known = h; got = get_lacking l h; gone = without_lacking l h; changed = λ f. change_lacking key t f l h }
@@ -181,7 +181,7 @@ module _ {A : Type 0} (key : A → ℕ) (t : ℕ) where
 pub map-place : {A B : Type 0} (g : A → B) (q : B → Bool) (k : ℕ) (l : List A) → place q k (map g l) ≡ place (λ x. q (g x)) k l
 unfolding place
 map-place g q k [] = refl
-map-place g q k (x ∷ l) = ap (λ m. cond (q (g x)) (At k) m) (map-place g q (suc k) l)
+map-place g q k (x ∷ l) = ap (λ m. cond (q (g x)) (Some k) m) (map-place g q (suc k) l)
 
 pub map-rank : {A B : Type 0} (g : A → B) (q : B → Bool) (l : List A) → rank q (map g l) ≡ rank (λ x. q (g x)) l
 unfolding rank

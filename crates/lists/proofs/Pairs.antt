@@ -9,7 +9,7 @@ use native.Mathlib.Omega.{arith}
 use lib.ListN.{length, take, get_or, set, length-map, get_or-map}
 use lib.Seq.{take-set-lt, length-take-le, get_or-take}
 use Rattle.lists.specs.Lists.{Every, zip_by, at, change, Ascending}
-use Rattle.lists.specs.declared.Found.TheVariants.{At}
+use Rattle.std.specs.Prelude.{Some}
 use Rattle.lists.specs.Arrays.{place, rank}
 use Rattle.lists.proofs.Loops.{located}
 use Rattle.lists.proofs.Maps.{map-set}
@@ -61,7 +61,7 @@ module _ {A B : Type 0} (f : A → B) where
 
   -- what is found by key is changed by writing it anew
   pub changed_at : (key : B → ℕ) (t : ℕ) (g : B → B) (d : A) (a : List A) (n i : ℕ) (y : A) → n ≤ length a → Ascending key (map f (take n a)) →
-      place (at key t) 0 (map f (take n a)) ≡ At i → f y ≡ g (f (get_or a i d)) → map f (take n (set a i y)) ≡ change key t g (map f (take n a))
+      place (at key t) 0 (map f (take n a)) ≡ Some i → f y ≡ g (f (get_or a i d)) → map f (take n (set a i y)) ≡ change key t g (map f (take n a))
   changed_at key t g d a n i y h s e q =
       let l = located key t (map f (take n a)) i e in
       let k : i < n = omega (arith, l.below, length-map (take n a) f, length-take-le n a h) in

@@ -1,8 +1,6 @@
 -- Lists kept in the front of an array: where something stands, and what putting in and taking out at a place does.
-use Rattle.std.specs.Prelude.{ℕ, suc, ◌+◌, ◌≤◌, ◌≡◌, Bool, false, cond, List, [], ◌∷◌, ◌++◌, eqb, ltb, length, take, drop}
-use Rattle.lists.specs.declared.Found.{Found}
-use Rattle.lists.specs.declared.Found.TheVariants.{At, Nothing}
-use Rattle.lists.specs.Lists.{has, include, self}
+use Rattle.std.specs.Prelude.{ℕ, suc, ◌+◌, ◌-◌, ◌≤◌, ◌≡◌, Bool, false, cond, List, [], ◌∷◌, ◌++◌, eqb, ltb, length, take, drop, Option, Some, None}
+use Rattle.lists.specs.Lists.{has, include, keep_by, self}
 
 module _ {A : Type 0} where
   abbrev pub insert_at : ℕ → A → List A → List A
@@ -12,9 +10,9 @@ module _ {A : Type 0} where
   remove_at k l = take k l ++ drop (suc k) l
 
   -- where the first element that passes stands, counted from i
-  unfoldable pub place : (A → Bool) → ℕ → List A → Found
-  place p i [] = Nothing
-  place p i (x ∷ l) = cond (p x) (At i) (place p (suc i) l)
+  unfoldable pub place : (A → Bool) → ℕ → List A → Option ℕ
+  place p i [] = None
+  place p i (x ∷ l) = cond (p x) (Some i) (place p (suc i) l)
 
   -- how many elements, from the front, pass before the first that does not
   unfoldable pub rank : (A → Bool) → List A → ℕ
@@ -35,10 +33,23 @@ Distinct (x ∷ l) = (has self x l ≡ false) × Distinct l
 abbrev pub under : ℕ → ℕ → Bool
 under x y = ltb y x
 
--- b is a, with x put in at k among the first n
-pub record Inserted (a : List ℕ) (n k x : ℕ) (b : List ℕ) : Type 0 where
+-- The first n of a slice, before (a) and after (b) a change in place.
+module _ {A : Type 0} (a : List A) (n : ℕ) where
+  -- x put in at k
+  pub record Inserted (k : ℕ) (x : A) (b : List A) : Type 0 where
+    pub size : length b ≡ length a
+    pub front : take (n + 1) b ≡ insert_at k x (take n a)
+
+  -- what stands at k taken out
+  pub record Removed (k : ℕ) (b : List A) : Type 0 where
+    pub size : length b ≡ length a
+    pub front : take (n - 1) b ≡ remove_at k (take n a)
+
+-- the first m of b are those of the first n of a whose flag is up
+pub record Kept {A : Type 0} (stay : List Bool) (a : List A) (n : ℕ) (b : List A) (m : ℕ) : Type 0 where
   pub size : length b ≡ length a
-  pub front : take (n + 1) b ≡ insert_at k x (take n a)
+  pub room : m ≤ n
+  pub front : take m b ≡ keep_by stay (take n a)
 
 -- the first m of b are the first n of a with x among them
 pub record Included (a : List ℕ) (n x : ℕ) (b : List ℕ) (m : ℕ) : Type 0 where

@@ -1,6 +1,7 @@
 -- The words in which the rules speak of lists: keeping, finding, changing and putting in by key, for any type of element.
 -- A test is a function to Bool; a key is a function to ℕ, by which lists are kept in rising order.
-use Rattle.std.specs.Prelude.{ℕ, ◌+◌, ◌<◌, Bool, true, false, cond, not, ◌&&◌, ◌||◌, List, [], ◌∷◌, ◌++◌, eqb, ltb, take, drop}
+use Rattle.std.specs.Prelude.{ℕ, ◌+◌, ◌<◌, Bool, true, false, cond, not, ◌&&◌, List, [], ◌∷◌, ◌++◌, eqb, ltb, take, drop}
+use Rattle.std.specs.List.{list_any, list_all}
 use Rattle.std.proofs.Math.Option.{Option, none, some}
 
 module _ {A : Type 0} where
@@ -22,13 +23,11 @@ module _ {A : Type 0} where
 
   -- whether some element passes
   abbrev pub any : (A → Bool) → List A → Bool
-  any p [] = false
-  any p (x ∷ l) = p x || any p l
+  any p l = list_any p l
 
   -- whether each element passes
   abbrev pub all : (A → Bool) → List A → Bool
-  all p [] = true
-  all p (x ∷ l) = p x && all p l
+  all p l = list_all p l
 
   -- whether the list has an element
   abbrev pub filled : List A → Bool

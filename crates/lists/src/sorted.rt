@@ -1,21 +1,16 @@
 // Rising numbers in the first n of a slice: where one ranks, and putting it in. The slice is lent, so that nothing of it is copied.
 ghost use Rattle.std.specs.Prelude.{◌≡◌, ◌≤◌, ◌<◌, length, take, drop};
 ghost use Rattle.lists.specs.Lists.{include, Ascending, self};
-ghost use Rattle.lists.specs.Arrays.{rank, leads, under, Inserted, Included};
+ghost use Rattle.lists.specs.Arrays.{rank, leads, under, Included};
+
+use crate::fronts;
 
 // How many of the first n, from the front, are lower than x.
 pub fn rank(s: &[u64], n: usize, x: u64) -> usize
     requires { n ≤ length s.now }
     ensures { result ≡ rank (under x) (take n s.now) }
 {
-    let mut i: usize = 0;
-    while i < n {
-        if s[i] >= x {
-            return i;
-        }
-        i += 1;
-    }
-    i
+    s[..n].iter().take_while(|y| **y < x).count()
 }
 
 // Whether x stands at k among the first n.
@@ -24,20 +19,6 @@ fn stands(s: &[u64], n: usize, k: usize, x: u64) -> bool
     ensures { result ≡ leads self x (drop k (take n s.now)) }
 {
     k < n && s[k] == x
-}
-
-// x put in at k among the first n: those from k on move up by one, from the end.
-pub fn insert_at(s: &mut [u64], n: usize, k: usize, x: u64)
-    requires { (k ≤ n) × (n < length s.old) }
-    ensures { Inserted s.old n k x s.new }
-{
-    let mut i = n;
-    while k < i {
-        let j = i - 1;
-        s[i] = s[j];
-        i = j;
-    }
-    s[k] = x;
 }
 
 // The first n with x among them: how many they are then. Where x stands it stands at its rank.
@@ -49,6 +30,6 @@ pub fn include(s: &mut [u64], n: usize, x: u64) -> usize
     if stands(s, n, k, x) {
         return n;
     }
-    insert_at(s, n, k, x);
+    fronts::insert_at(s, n, k, x);
     n + 1
 }

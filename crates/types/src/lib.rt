@@ -4,7 +4,7 @@
 
 pub mod widths;
 
-ghost use Rattle.std.specs.Prelude.{◌≡◌, ◌+◌, ◌≤◌, true, length, ◌==◌, nat_le, nat_lt};
+ghost use Rattle.std.specs.Prelude.{◌≡◌, ◌+◌, ◌≤◌, true, length, ◌/◌, ◌^◌, nat_le};
 ghost use Rattle.std.proofs.lemmas.List.Edits.{sets};
 ghost use Rattle.lists.specs.Lists.{has, self as itself};
 ghost use Rattle.rules.specs.Numbers.{is_time, is_shard, is_span, depth, owns, shard_for_route, record_key, cell_key};
@@ -14,18 +14,18 @@ ghost use Rattle.types.specs.Transactions.{number_of};
 use lists::slices::{contains, word_at};
 
 // A time in milliseconds.
-#[derive(Clone, Copy)]
+#[derive(Clone, Copy, PartialEq, Eq, PartialOrd, Ord)]
 pub struct Time(pub u64);
 
 // A shard, by the path to it from the root: the highest one bit, then a bit a level.
-#[derive(Clone, Copy)]
+#[derive(Clone, Copy, PartialEq, Eq, PartialOrd, Ord)]
 pub struct Shard(pub u64);
 
-#[derive(Clone, Copy)]
+#[derive(Clone, Copy, PartialEq, Eq, PartialOrd, Ord)]
 pub struct Transaction(pub u64);
 
 // Where a crossing's record is kept.
-#[derive(Clone, Copy)]
+#[derive(Clone, Copy, PartialEq, Eq, PartialOrd, Ord)]
 pub struct RecordKey(pub u64);
 
 pub fn is_time(n: u64) -> bool
@@ -51,31 +51,11 @@ impl Time {
     pub fn passed(self, time: Time) -> bool
         ensures { result ≡ nat_le self.0 time.0 }
     {
-        self.0 <= time.0
+        self <= time
     }
 }
 
 impl Transaction {
-    pub fn is(self, other: Transaction) -> bool
-        ensures { result ≡ (number_of self == number_of other) }
-    {
-        self.0 == other.0
-    }
-
-    // Whether it stands before the other in every list.
-    pub fn precedes(self, other: Transaction) -> bool
-        ensures { result ≡ nat_lt (number_of self) (number_of other) }
-    {
-        self.0 < other.0
-    }
-
-    // What stands for one where none is held.
-    pub fn blank() -> Transaction
-        ensures { number_of result ≡ 0 }
-    {
-        Transaction(0)
-    }
-
     // The one that stands at a place of the words, those past the end as 0.
     pub fn read(words: &[u64], at: usize) -> Transaction
         ensures { number_of result ≡ transaction_at at words.now }
@@ -105,18 +85,24 @@ impl Shard {
         requires { is_shard self.0 ≡ true }
         ensures { result ≡ depth self.0 }
     {
-        63 - u64::leading_zeros(self.0)
+        63 - self.0.leading_zeros()
     }
 
-    // Whether the route's top bits are the shard's path. With a one bit put in front of the route, the two are compared
-    // in one shift by what is not depth, and the root, which owns all, is no case of its own.
+    // Whether the route's top bits are the shard's path: led by a one bit the route is compared in one shift by what is not depth, and
+    // the root, which owns all, is no case of its own.
     pub fn owns(self, route: u64) -> bool
         requires { is_shard self.0 ≡ true }
         ensures { result ≡ owns self.0 route }
     {
-        let led = (route >> 1) + 0x8000_0000_0000_0000;
-        (led >> (63 - self.depth())) == self.0
+        (led(route) >> (63 - self.depth())) == self.0
     }
+}
+
+// The route with a one bit put in front, its last bit lost: one shift compares it with a shard of any depth.
+pub fn led(route: u64) -> u64
+    ensures { result ≡ route / 2 + 2 ^ 63 }
+{
+    (route >> 1) + 0x8000_0000_0000_0000
 }
 
 // The shard that a trie of uniform depth d has for a route.
@@ -124,8 +110,7 @@ pub fn shard_for_route(d: u32, route: u64) -> Shard
     requires { nat_le d 32 ≡ true }
     ensures { result.0 ≡ shard_for_route d route }
 {
-    let led = (route >> 1) + 0x8000_0000_0000_0000;
-    Shard(led >> (63 - d))
+    Shard(led(route) >> (63 - d))
 }
 
 // The key of the record that a crossing's id is kept under.
@@ -139,5 +124,5 @@ pub fn record_key(id: u64) -> RecordKey
 pub fn cell_key(tx: Transaction, end: Time, shard: Shard) -> u64
     ensures { result ≡ cell_key (number_of tx) end.0 shard.0 }
 {
-    std::num::wrapping_add_u64(std::num::wrapping_add_u64(tx.0, end.0), shard.0)
+    tx.0.wrapping_add(end.0).wrapping_add(shard.0)
 }
