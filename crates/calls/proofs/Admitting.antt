@@ -1,5 +1,6 @@
 -- Admission: what each line of its table and each branch after it gives, from what the parts did.
 -- Assumes nothing.
+use Rattle.std.specs.Prelude.{Option, Some, None}
 use Prim.Native.Nat.{ℕ, zero, suc, ◌-◌, ◌≤◌, ◌<◌}
 use mathlib.Core.Path.{◌≡◌, refl, sym, ap, ◌∙◌}
 use mathlib.Core.Bool.{Bool, true, false, not}
@@ -10,8 +11,6 @@ use lib.ListN.{length, set}
 use borrow.Author.Tests.{lt-ltb, le-ltb, ltb-true, le-leb, lt-leb, leb-true, leb-false}
 use Rattle.lists.specs.Lists.{Every, has, include, include_all}
 use Rattle.lists.specs.Arrays.{place, rank}
-use Rattle.lists.specs.declared.Found.{Found}
-use Rattle.lists.specs.declared.Found.TheVariants.{At, Nothing}
 use Rattle.lists.proofs.Tests.{by_cond, same_test}
 use Rattle.lists.proofs.Parts.{every_get_d}
 use Rattle.lists.proofs.Order.{include-known}
@@ -78,7 +77,7 @@ lines_none true true false m e = absurd (omega arith)
 lines_none true true true m e = (refl, e)
 
 -- the words' lines, then the room
-module _ (ws : List ℕ) (found : Found) (n r : ℕ) (e : r ≡ words_refusal ws) where
+module _ (ws : List ℕ) (found : Option ℕ) (n r : ℕ) (e : r ≡ words_refusal ws) where
   pub words_first : 0 < r → r ≡ table_refusal ws found n
   words_first q = go r e q
     where
@@ -91,13 +90,13 @@ module _ (ws : List ℕ) (found : Found) (n r : ℕ) (e : r ≡ words_refusal ws
       let z : words_refusal ws ≡ 0 = omega arith in
       u ∙ sym (lines_pass (admission_formed ws) (admission_timed ws) (admission_placed ws) (room_refusal found n) z)
 
-pub found_says : (found : Found) (k n : ℕ) → found ≡ At k → 0 ≡ room_refusal found n
+pub found_says : (found : Option ℕ) (k n : ℕ) → found ≡ Some k → 0 ≡ room_refusal found n
 found_says found k n e = rw e
 
-pub full_says : (found : Found) (n : ℕ) → found ≡ Nothing → 48 ≤ n → 6 ≡ room_refusal found n
+pub full_says : (found : Option ℕ) (n : ℕ) → found ≡ None → 48 ≤ n → 6 ≡ room_refusal found n
 full_says found n e h = rw (e, le-leb 48 n h)
 
-pub free_says : (found : Found) (n : ℕ) → found ≡ Nothing → n < 48 → 0 ≡ room_refusal found n
+pub free_says : (found : Option ℕ) (n : ℕ) → found ≡ None → n < 48 → 0 ≡ room_refusal found n
 free_says found n e h = rw (e, lt-leb 48 n h)
 
 pub admitted-transaction : (local : ℕ) (ws : List ℕ) → transaction_of (admitted local ws) ≡ (admission_terms ws).transaction
@@ -115,9 +114,9 @@ module _ (l : Ledger) (h : Held l) (ws : List ℕ) where
   unfolding contents
   count = entries-length l h
 
-  room_same : (found : Found) → place (is t) 0 (keys_of l.roster) ≡ found → (no_room_for (t ∷ []) (contents l) gives 6 then 0) ≡ room_refusal found l.roster.len
-  room_same (At k) q = rw ((found_at l h t k q).known, le-ltb (48 - length (contents l).entries) 0 (omega arith))
-  room_same Nothing q =
+  room_same : (found : Option ℕ) → place (is t) 0 (keys_of l.roster) ≡ found → (no_room_for (t ∷ []) (contents l) gives 6 then 0) ≡ room_refusal found l.roster.len
+  room_same (Some k) q = rw ((found_at l h t k q).known, le-ltb (48 - length (contents l).entries) 0 (omega arith))
+  room_same None q =
       let full : ltb (48 - length (contents l).entries) 1 ≡ leb 48 l.roster.len =
       same_test _ _
       (λ a. le-leb 48 l.roster.len (omega (arith, count, ltb-true (48 - length (contents l).entries) 1 a)))
@@ -125,7 +124,7 @@ module _ (l : Ledger) (h : Held l) (ws : List ℕ) where
       rw ((not_found l h t q).known, full)
 
   -- f: what the roster says of the transaction; r: the number that the table gives
-  module _ (f : Found) (q : f ≡ place (is t) 0 (keys_of l.roster)) (r : ℕ) (e : r ≡ table_refusal ws f l.roster.len) where
+  module _ (f : Option ℕ) (q : f ≡ place (is t) 0 (keys_of l.roster)) (r : ℕ) (e : r ≡ table_refusal ws f l.roster.len) where
     refused_by : admission_refusal ws (contents l) ≡ r
     refused_by = ap (lines (admission_formed ws) (admission_timed ws) (admission_placed ws)) (room_same f (sym q)) ∙ sym e
 
@@ -145,7 +144,7 @@ module _ (l : Ledger) (h : Held l) (ws : List ℕ) where
       is_formed = (lines_none (admission_formed ws) (admission_timed ws) (admission_placed ws) (room_refusal f l.roster.len) (omega arith)).0
 
       -- owed already
-      pub skipped : (k : ℕ) → f ≡ At k → Meets (after_admission ws (contents l)) [] [] (says 0 l)
+      pub skipped : (k : ℕ) → f ≡ Some k → Meets (after_admission ws (contents l)) [] [] (says 0 l)
       unfolding after_admission
       skipped k u =
           let known = (found_at l h t k (sym q ∙ u)).known in
@@ -154,7 +153,7 @@ module _ (l : Ledger) (h : Held l) (ws : List ℕ) where
           passes (admission_refusal ws (contents l)) (contents l) o [] [] _ fits
           (rw (known, kept) (answers 0 l (contents l) (says 0 l) (record { held = h; holds = refl }) refl))
 
-      module _ (u : f ≡ Nothing) where
+      module _ (u : f ≡ None) where
         pub is_free : l.roster.len < 48
         is_free =
             let none : (leb 48 l.roster.len gives 6 then 0) ≡ 0 = rw u at (lines_none (admission_formed ws) (admission_timed ws) (admission_placed ws) (room_refusal f l.roster.len) (omega arith)).1 in
@@ -169,7 +168,7 @@ module _ (l : Ledger) (h : Held l) (ws : List ℕ) where
           unfolding plain_entry
           same = ap transaction_of plain ∙ admitted-transaction (contents l).local ws
 
-          missed : place (is (number_of x.tx)) 0 (keys_of l.roster) ≡ Nothing
+          missed : place (is (number_of x.tx)) 0 (keys_of l.roster) ≡ None
           missed = rw same (sym q ∙ u)
 
           unknown : has transaction_of (transaction_of (plain_entry x)) (contents l).entries ≡ false

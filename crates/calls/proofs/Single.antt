@@ -1,5 +1,6 @@
 -- The calls that look up one transaction: what each does where it is owed and where it is not, from what its parts did.
 -- Assumes nothing.
+use Rattle.std.specs.Prelude.{Some, None}
 use Prim.Native.Nat.{ℕ, ◌≤◌, ◌<◌}
 use mathlib.Core.Path.{◌≡◌, refl, ap, sym, ◌∙◌, subst}
 use mathlib.Core.Bool.{Bool, true, false, ◌&&◌}
@@ -9,7 +10,6 @@ use lib.ListN.{length, get_or}
 use borrow.Author.Tests.{lt-ltb, le-ltb, le-leb, lt-leb}
 use Rattle.lists.specs.Lists.{keep, change}
 use Rattle.lists.specs.Arrays.{place}
-use Rattle.lists.specs.declared.Found.TheVariants.{At, Nothing}
 use Rattle.lists.proofs.Tests.{by_cond}
 use Rattle.lists.proofs.Order.{include-known}
 use Rattle.lists.proofs.Change.{change_same}
@@ -37,13 +37,13 @@ use Rattle.ledger.proofs.Meeting.{refuses, passes, answers, silent, good-after, 
 
 -- Forget.
 module _ (l : Ledger) (h : Held l) (t : ℕ) where
-  pub forget_unknown : place (is t) 0 (keys_of l.roster) ≡ Nothing → Meets (after_forget t (contents l)) [] [] (says 0 l)
+  pub forget_unknown : place (is t) 0 (keys_of l.roster) ≡ None → Meets (after_forget t (contents l)) [] [] (says 0 l)
   unfolding after_forget
   forget_unknown e =
       let w = not_found l h t e in
       rw (w.known, w.gone) (answers 0 l (contents l) (says 0 l) (stays l h (contents l) refl) refl)
 
-  pub forget-owed : (k : ℕ) → place (is t) 0 (keys_of l.roster) ≡ At k → (r : Roster) (x : Issuers) → Removed l.roster k r →
+  pub forget-owed : (k : ℕ) → place (is t) 0 (keys_of l.roster) ≡ Some k → (r : Roster) (x : Issuers) → Removed l.roster k r →
       issuers.Holds (keep (is_not t) (pairs_in l.issuers)) x → Meets (after_forget t (contents l)) [] [] (says 1 (with_parts l l.rebuilt r l.entries x l.departures))
   unfolding after_forget
   forget-owed k e r x c i =
@@ -52,16 +52,16 @@ module _ (l : Ledger) (h : Held l) (t : ℕ) where
       rw a.known (answers 1 (with_parts l l.rebuilt r l.entries x l.departures) _ _ b refl)
 
   -- Fated.
-  pub fated_unknown : place (is t) 0 (keys_of l.roster) ≡ Nothing → Meets (after_fated t (contents l)) [] [] (says 0 l)
+  pub fated_unknown : place (is t) 0 (keys_of l.roster) ≡ None → Meets (after_fated t (contents l)) [] [] (says 0 l)
   unfolding after_fated
   fated_unknown e = rw (not_found l h t e).got (answers 0 l (contents l) (says 0 l) (stays l h (contents l) refl) refl)
 
-  pub fated_other : (k : ℕ) (d : Entry) → place (is t) 0 (keys_of l.roster) ≡ At k →
+  pub fated_other : (k : ℕ) (d : Entry) → place (is t) 0 (keys_of l.roster) ≡ Some k →
       is_leg (plain_entry (lying_at l k d)).part ≡ false → Meets (after_fated t (contents l)) [] [] (says 0 l)
   unfolding after_fated
   fated_other k d e q = rw ((found_at l h t k e).got d, q) (answers 0 l (contents l) (says 0 l) (stays l h (contents l) refl) refl)
 
-  pub fated-leg : (k : ℕ) (d : Entry) → place (is t) 0 (keys_of l.roster) ≡ At k →
+  pub fated-leg : (k : ℕ) (d : Entry) → place (is t) 0 (keys_of l.roster) ≡ Some k →
       is_leg (plain_entry (lying_at l k d)).part ≡ true → (r : Roster) (x : Issuers) → Removed l.roster k r →
       issuers.Holds (keep (is_not t) (pairs_in l.issuers)) x → Meets (after_fated t (contents l)) [] [] (says 2 (with_parts l l.rebuilt r l.entries x l.departures))
   unfolding after_fated after_forget
@@ -79,7 +79,7 @@ module _ (l : Ledger) (h : Held l) (t : ℕ) where
     coded : code ≤ 2 → certify_refusal code ≡ 0
     coded q = rw (le-ltb 2 code q)
 
-    pub certify_unknown : code ≤ 2 → place (is t) 0 (keys_of l.roster) ≡ Nothing → Meets (after_certify t code (contents l)) [] [] (says 0 l)
+    pub certify_unknown : code ≤ 2 → place (is t) 0 (keys_of l.roster) ≡ None → Meets (after_certify t code (contents l)) [] [] (says 0 l)
     unfolding after_certify
     certify_unknown q e =
         passes (certify_refusal code) (contents l) _ [] [] (says 0 l) (coded q)
@@ -97,12 +97,12 @@ module _ (l : Ledger) (h : Held l) (t : ℕ) where
 
   -- Settled and returned.
   module _ (r : ℕ) (is_return : Bool) where
-    pub mark_unknown : place (is t) 0 (keys_of l.roster) ≡ Nothing → Meets (after_mark r t is_return (contents l)) [] [] (says 0 l)
+    pub mark_unknown : place (is t) 0 (keys_of l.roster) ≡ None → Meets (after_mark r t is_return (contents l)) [] [] (says 0 l)
     unfolding after_mark
     mark_unknown e =
         rw ((not_found l h t e).changed (marked (contents l).local r is_return)) (silent l (contents l) (says 0 l) (stays l h (contents l) refl) refl)
 
-    pub mark_owed : (k : ℕ) (d x : Entry) → place (is t) 0 (keys_of l.roster) ≡ At k →
+    pub mark_owed : (k : ℕ) (d x : Entry) → place (is t) 0 (keys_of l.roster) ≡ Some k →
         Means (marked l.local.0 r is_return (plain_entry (lying_at l k d))) x →
         Meets (after_mark r t is_return (contents l)) [] [] (says 0 (storing l (slot_at l k) x))
     unfolding after_mark contents
@@ -123,13 +123,13 @@ module _ (l : Ledger) (h : Held l) (t : ℕ) where
     unfolding after_absence
     absence-shard q = refuses 3 l [] (absence_refusal t a (contents l)) _ (says_no 4 l) h (rw q) refl
 
-    pub absence_unknown : is_shard a.shard ≡ true → place (is t) 0 (keys_of l.roster) ≡ Nothing → Meets (after_absence t a (contents l)) [] [] (says 0 l)
+    pub absence_unknown : is_shard a.shard ≡ true → place (is t) 0 (keys_of l.roster) ≡ None → Meets (after_absence t a (contents l)) [] [] (says 0 l)
     unfolding after_absence
     absence_unknown q e =
         let w = not_found l h t e in
         rw (q, w.got, w.changed (read_absent a)) (answers 0 l (contents l) (says 0 l) (stays l h (contents l) refl) refl)
 
-    module _ (k : ℕ) (d : Entry) (q : is_shard a.shard ≡ true) (e : place (is t) 0 (keys_of l.roster) ≡ At k) where
+    module _ (k : ℕ) (d : Entry) (q : is_shard a.shard ≡ true) (e : place (is t) 0 (keys_of l.roster) ≡ Some k) where
       abbrev old : Entry
       old = lying_at l k d
 

@@ -1,7 +1,6 @@
 -- The refusal table of an admission: the lines that its words decide, then the room for it.
+use Rattle.std.specs.Prelude.{Option, Some, None}
 use Rattle.std.specs.Prelude.{ℕ, not, List, leb}
-use Rattle.lists.specs.declared.Found.{Found}
-use Rattle.lists.specs.declared.Found.TheVariants.{At, Nothing}
 use Rattle.rules.specs.Words.{admission_formed, admission_timed, admission_placed}
 use Rattle.rules.specs.Outcome.{◌gives◌then◌}
 
@@ -12,11 +11,11 @@ words_refusal ws =
     not (admission_placed ws) gives 4 then 0
 
 -- a transaction that was found needs no room
-abbrev pub room_refusal : Found → ℕ → ℕ
-room_refusal (At k) n = 0
-room_refusal Nothing n = leb 48 n gives 6 then 0
+abbrev pub room_refusal : Option ℕ → ℕ → ℕ
+room_refusal (Some k) n = 0
+room_refusal None n = leb 48 n gives 6 then 0
 
-abbrev pub table_refusal : List ℕ → Found → ℕ → ℕ
+abbrev pub table_refusal : List ℕ → Option ℕ → ℕ → ℕ
 table_refusal ws found n =
     not (admission_formed ws) gives 5 then
     not (admission_timed ws) gives 3 then

@@ -9,7 +9,6 @@ ghost use Rattle.calls.specs.Refusals.{words_refusal, table_refusal};
 
 use entry::Entry;
 use ledger::{Done, Ledger};
-use lists::Found;
 use store::issuers::{Issuers, name};
 use types::{Shard, record_key};
 use words::admission::{
@@ -59,14 +58,14 @@ fn refused_words(words: &[u64]) -> u64
 
 // The number by which an admission is turned away, 0 for none; found and len are what the roster says of its transaction.
 #[tactic(auto, using(crate::proofs::Admitting::words_first, crate::proofs::Admitting::room_last, crate::proofs::Admitting::found_says, crate::proofs::Admitting::full_says, crate::proofs::Admitting::free_says))]
-fn refusal(words: &[u64], found: Found, len: usize) -> u64
+fn refusal(words: &[u64], found: Option<usize>, len: usize) -> u64
     ensures { result ≡ table_refusal words.now found len }
 {
     let refused = refused_words(words);
     if 0 < refused {
         return refused;
     }
-    let Found::Nothing = found else {
+    let None = found else {
         return 0;
     };
     if 48 <= len { 6 } else { 0 }
@@ -84,7 +83,7 @@ pub fn register_committed(mut ledger: Ledger, words: &[u64]) -> Done
     let found = roster.find(tx);
     let refused = refusal(words, found, len);
     if refused == 0 {
-        if let Found::Nothing = found {
+        if let None = found {
             let e = admitted(words, ledger.local);
             let slot = roster.slots[len];
             ledger.roster = roster.insert_at(roster.rank(tx), tx);

@@ -1,7 +1,6 @@
 // Certify, and the reading of a cell as absent: what one owed entry learns.
 ghost use Rattle.std.specs.Prelude.{[], ◌≡◌, ℕ};
 ghost use Rattle.lists.specs.Lists.{Ascending};
-ghost use Rattle.lists.specs.declared.Found.TheVariants.{At};
 ghost use Rattle.rules.specs.Plain.{absence_key};
 ghost use Rattle.rules.specs.Calls.{after_certify, after_absence};
 ghost use Rattle.entry.specs.Entry.{absence, absences_of, Fits};
@@ -13,7 +12,6 @@ ghost use Rattle.types.specs.Transactions.{number_of};
 use crate::looking::slot_or_first;
 use entry::Entry;
 use ledger::{Done, Ledger};
-use lists::Found;
 use types::{Shard, Transaction, is_shard};
 
 // How far this shard has spoken for a transaction: the greater code is kept.
@@ -26,7 +24,7 @@ pub fn certify(mut ledger: Ledger, tx: Transaction, code: u64) -> Done
         refused = 5;
     } else {
         let roster = ledger.roster;
-        if let Found::At(slot) = roster.slot_of(tx) {
+        if let Some(slot) = roster.slot_of(tx) {
             let e = ledger.entries[slot];
             ledger.entries[slot] = e.with_certificate((code % 256) as u8);
         }
@@ -47,9 +45,9 @@ pub struct AbsenceOutcome {
 }
 
 // What the entry that was looked up says to an absence; one that was not found says no, and any entry stands for it unchanged.
-fn absence_outcome(found: Found, e: Entry, shard: Shard, key: u64) -> AbsenceOutcome
+fn absence_outcome(found: Option<usize>, e: Entry, shard: Shard, key: u64) -> AbsenceOutcome
     requires fits { Fits e }
-    requires by_index { (k : ℕ) → found ≡ At k → Ascending absence_key (absences_of e) }
+    requires by_index { (k : ℕ) → found ≡ Some k → Ascending absence_key (absences_of e) }
     ensures { IsAbsenceOutcome (absence shard.0 key) found e result }
 {
     if !is_shard(shard.0) {
@@ -59,7 +57,7 @@ fn absence_outcome(found: Found, e: Entry, shard: Shard, key: u64) -> AbsenceOut
             entry: e,
         };
     }
-    let Found::At(_) = found else {
+    let Some(_) = found else {
         return AbsenceOutcome {
             refused: 0,
             answer: 0,

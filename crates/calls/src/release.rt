@@ -6,7 +6,6 @@ ghost use Rattle.ledger.specs.Meets.{Meets};
 ghost use Rattle.types.specs.Transactions.{number_of};
 
 use ledger::{Done, Ledger};
-use lists::Found;
 use types::Transaction;
 
 // Lets a transaction go with no outcome, and answers whether it was owed.
@@ -16,7 +15,7 @@ pub fn forget(mut ledger: Ledger, tx: Transaction) -> Done
 {
     let mut answer: u64 = 0;
     let roster = ledger.roster;
-    if let Found::At(k) = roster.find(tx) {
+    if let Some(k) = roster.find(tx) {
         let issuers = ledger.issuers;
         ledger.roster = roster.remove_at(k);
         ledger.issuers = issuers.without(tx);
@@ -36,7 +35,7 @@ pub fn fated(mut ledger: Ledger, tx: Transaction) -> Done
 {
     let mut answer: u64 = 0;
     let roster = ledger.roster;
-    if let Found::At(k) = roster.find(tx) {
+    if let Some(k) = roster.find(tx) {
         let slot = roster.slots[k];
         let e = ledger.entries[slot];
         let part = e.part;

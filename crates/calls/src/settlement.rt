@@ -1,6 +1,5 @@
 // Settled and returned: a record of a leg or a remainder marked.
 ghost use Rattle.std.specs.Prelude.{◌≡◌, true, false, [], ℕ};
-ghost use Rattle.lists.specs.declared.Found.TheVariants.{At};
 ghost use Rattle.rules.specs.Calls.{after_mark};
 ghost use Rattle.rules.specs.Good.{GoodEntry};
 ghost use Rattle.entry.specs.Entry.{plain_entry, Fits};
@@ -12,17 +11,16 @@ ghost use Rattle.types.specs.Transactions.{number_of};
 use crate::looking::slot_or_first;
 use entry::Entry;
 use ledger::{Done, Ledger};
-use lists::Found;
 use types::{RecordKey, Shard, Transaction};
 
 // The entry that was looked up with its record marked; only an issued record of a leg or remainder takes a mark. One that was not found
 // stays as it is.
-fn marked(found: Found, e: Entry, local: Shard, r: RecordKey, is_return: bool) -> Entry
+fn marked(found: Option<usize>, e: Entry, local: Shard, r: RecordKey, is_return: bool) -> Entry
     requires fits { Fits e }
-    requires by_index { (k : ℕ) → found ≡ At k → GoodEntry local.0 (plain_entry e) }
+    requires by_index { (k : ℕ) → found ≡ Some k → GoodEntry local.0 (plain_entry e) }
     ensures { TakesMark r.0 is_return local.0 found e result }
 {
-    let Found::At(_) = found else {
+    let Some(_) = found else {
         return e;
     };
     e.with_mark(local, r, is_return)

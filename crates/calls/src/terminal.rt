@@ -9,7 +9,6 @@ ghost use Rattle.ledger.specs.Meets.{Meets};
 ghost use Rattle.calls.specs.Terminals.{is_until, words_refusal, filed_as};
 
 use ledger::{Done, Ledger};
-use lists::Found;
 use store::departures::Departures;
 use types::{Shard, Time, is_shard, is_time};
 
@@ -47,7 +46,7 @@ fn has_room(departures: Departures, shard: Shard) -> bool
     requires { Sound departures }
     ensures { result ≡ has shard_of shard.0 (on_file departures) || not (leb 32 (length (on_file departures))) }
 {
-    let Found::Nothing = departures.find(shard) else {
+    let None = departures.find(shard) else {
         return true;
     };
     departures.len < 32

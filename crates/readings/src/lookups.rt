@@ -12,7 +12,6 @@ use crate::Answer;
 use crate::reply::{answer, refusal, yes_no};
 use entry::{Entry, Part};
 use ledger::Ledger;
-use lists::Found;
 use types::{RecordKey, Shard, Time, Transaction};
 
 // A core without a certificate by execution, which no record names.
@@ -34,7 +33,7 @@ pub fn abandonment_answers(ledger: Ledger, tx: Transaction) -> Answer
     ensures { Reads (read (abandonment (number_of tx)) (contents ledger)) [] [] result }
 {
     let roster = ledger.roster;
-    let Found::At(slot) = roster.slot_of(tx) else {
+    let Some(slot) = roster.slot_of(tx) else {
         return yes_no(false);
     };
     let e = ledger.entries[slot];
@@ -48,7 +47,7 @@ pub fn is_covered(ledger: Ledger, tx: Transaction) -> Answer
     ensures { Reads (read (covered (number_of tx)) (contents ledger)) [] [] result }
 {
     let roster = ledger.roster;
-    let Found::At(slot) = roster.slot_of(tx) else {
+    let Some(slot) = roster.slot_of(tx) else {
         return yes_no(false);
     };
     let e = ledger.entries[slot];
@@ -61,7 +60,7 @@ pub fn departed(ledger: Ledger, tx: Transaction) -> Answer
     ensures { Reads (read (departed (number_of tx)) (contents ledger)) [] [] result }
 {
     let roster = ledger.roster;
-    let Found::At(slot) = roster.slot_of(tx) else {
+    let Some(slot) = roster.slot_of(tx) else {
         return yes_no(false);
     };
     yes_no(ledger.entries[slot].departed_by.0 > 0)
@@ -73,7 +72,7 @@ pub fn executed(ledger: Ledger, tx: Transaction) -> Answer
     ensures { Reads (read (executed (number_of tx)) (contents ledger)) [] [] result }
 {
     let roster = ledger.roster;
-    let Found::At(slot) = roster.slot_of(tx) else {
+    let Some(slot) = roster.slot_of(tx) else {
         return yes_no(false);
     };
     yes_no(ledger.entries[slot].certified == 2)
@@ -85,7 +84,7 @@ pub fn reaches_beyond(ledger: Ledger, tx: Transaction) -> Answer
     ensures { Reads (read (reaches_beyond (number_of tx)) (contents ledger)) [] [] result }
 {
     let roster = ledger.roster;
-    let Found::At(slot) = roster.slot_of(tx) else {
+    let Some(slot) = roster.slot_of(tx) else {
         return yes_no(false);
     };
     let e = ledger.entries[slot];
@@ -199,7 +198,7 @@ pub fn answers(
         return yes_no(false);
     }
     let roster = ledger.roster;
-    let Found::Nothing = roster.find(tx) else {
+    let None = roster.find(tx) else {
         return yes_no(true);
     };
     yes_no(false)

@@ -42,25 +42,25 @@ is_read-requires c κs = search rules
 returns-then-is_read : tie.Need-returns-then-is_read
 returns-then-is_read c =
     let a = c.args in
-    rw c.in-At.is
-    (λ l t w. heard_read l t c.in-At.field-0 a.e w (absence a.shard.0 a.key) (placed c.before.before.before) (sym c.is_read.ensures ∙ c.if-is_read.true))
+    rw c.in-Some.is
+    (λ l t w. heard_read l t c.in-Some.field-0 a.e w (absence a.shard.0 a.key) (placed c.before.before.before) (sym c.is_read.ensures ∙ c.if-is_read.true))
 
 returns-then-e-ge8 : tie.Need-returns-then-e-ge8
 returns-then-e-ge8 c =
     let a = c.args in
-    rw c.in-At.is
-    (λ l t w. heard_full l t c.in-At.field-0 a.e w (absence a.shard.0 a.key) (placed c.before.before.before.before.before) (sym c.is_read.ensures ∙ c.if-is_read.false) (omega arith))
+    rw c.in-Some.is
+    (λ l t w. heard_full l t c.in-Some.field-0 a.e w (absence a.shard.0 a.key) (placed c.before.before.before.before.before) (sym c.is_read.ensures ∙ c.if-is_read.false) (omega arith))
 
 with_absence-requires : tie.Need-with_absence-requires
 with_absence-requires c κs =
     let a = c.args in
-    room_for a.e (absence a.shard.0 a.key) c.requires.0 (c.requires.1 c.in-At.field-0 c.in-At.is) (omega arith)
+    room_for a.e (absence a.shard.0 a.key) c.requires.0 (c.requires.1 c.in-Some.field-0 c.in-Some.is) (omega arith)
 
 returns : tie.Need-returns
 returns c =
     let a = c.args in
-    rw c.in-At.is
-    (λ l t w. heard_new l t c.in-At.field-0 a.e w (absence a.shard.0 a.key) (placed c.before.before.before.before.before.before) (sym c.is_read.ensures ∙ c.if-is_read.false) (omega arith)
+    rw c.in-Some.is
+    (λ l t w. heard_new l t c.in-Some.field-0 a.e w (absence a.shard.0 a.key) (placed c.before.before.before.before.before.before) (sym c.is_read.ensures ∙ c.if-is_read.false) (omega arith)
     (lt-ltb a.key (2 ^ 64) (omega arith)) c.with_absence.result c.with_absence.ensures)
 
 pub absence_outcome_spec : {M : Type 1} → statement M

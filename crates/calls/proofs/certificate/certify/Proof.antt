@@ -12,12 +12,12 @@ use Rattle.calls.proofs.certificate.certify.Statement.{statement}
 use Rattle.calls.proofs.certificate.certify.Tie as tie
 
 -- where the entry lies, and what is known of it
-lies : (c : tie.In-At) → LiesIn c.args.ledger.roster (number_of c.args.tx) c.in-At.slot
-lies c = rw c.in-At.is at c.slot_of.ensures
+lies : (c : tie.In-Some) → LiesIn c.args.ledger.roster (number_of c.args.tx) c.in-Some.slot
+lies c = rw c.in-Some.is at c.slot_of.ensures
 
-there : (c : tie.In-At) → Owed c.args.ledger (number_of c.args.tx) c.in-At.slot
+there : (c : tie.In-Some) → Owed c.args.ledger (number_of c.args.tx) c.in-Some.slot
 there c =
-    owed_in c.args.ledger c.requires (number_of c.args.tx) c.in-At.slot (lies c)
+    owed_in c.args.ledger c.requires (number_of c.args.tx) c.in-Some.slot (lies c)
 
 returns-then-code-gt2 : tie.Need-returns-then-code-gt2
 returns-then-code-gt2 c = let s = c in certify_code s.args.ledger s.requires (number_of s.args.tx) s.args.code (omega arith)
@@ -47,17 +47,17 @@ overflow_cast-code c = search rules
 with_certificate-requires : tie.Need-with_certificate-requires
 with_certificate-requires c κs = (there c.before).fits _
 
-offset_bounds-ledger-slot-in-At : tie.Need-offset_bounds-ledger-slot-in-At
-offset_bounds-ledger-slot-in-At c = omega (arith, (there c.before.before).slot)
+offset_bounds-ledger-slot-in-Some : tie.Need-offset_bounds-ledger-slot-in-Some
+offset_bounds-ledger-slot-in-Some c = omega (arith, (there c.before.before).slot)
 
-bounds-ledger-slot-in-At : tie.Need-bounds-ledger-slot-in-At
-bounds-ledger-slot-in-At c = (there c.before.before).slot
+bounds-ledger-slot-in-Some : tie.Need-bounds-ledger-slot-in-Some
+bounds-ledger-slot-in-Some c = (there c.before.before).slot
 
-returns-in-At : tie.Need-returns-in-At
-returns-in-At c =
+returns-in-Some : tie.Need-returns-in-Some
+returns-in-Some c =
     let small : c.args.code ≤ 2 = omega arith in
     let same : c.args.code % 256 ≡ c.args.code = omega arith in
-    certify-owed c.args.ledger c.requires (number_of c.args.tx) c.args.code small c.in-At.slot (lies c.before.before) _ c.with_certificate.result
+    certify-owed c.args.ledger c.requires (number_of c.args.tx) c.args.code small c.in-Some.slot (lies c.before.before) _ c.with_certificate.result
     (rw same at c.with_certificate.ensures)
 
 pub certify_spec : {M : Type 1} → statement M
@@ -70,9 +70,9 @@ certify_spec =
     bounds-ledger-slot
     overflow_cast-code
     with_certificate-requires
-    offset_bounds-ledger-slot-in-At
-    bounds-ledger-slot-in-At
+    offset_bounds-ledger-slot-in-Some
+    bounds-ledger-slot-in-Some
     enum_told-1
     returns-then-code-gt2
-    returns-in-At
+    returns-in-Some
     returns-in_default)

@@ -9,8 +9,8 @@ use Rattle.calls.proofs.looking.slot_or_first.Statement.{statement}
 use Rattle.calls.proofs.looking.slot_or_first.Tie as tie
 
 -- the place lies within the roster
-within : (c : tie.In-At) → c.in-At.k < c.args.roster.len
-within c = let s = c in s.requires.1 c.in-At.k c.in-At.is
+within : (c : tie.In-Some) → c.in-Some.k < c.args.roster.len
+within c = let s = c in s.requires.1 c.in-Some.k c.in-Some.is
 
 enum_known-found : tie.Need-enum_known-found
 enum_known-found c = search rules
@@ -31,7 +31,7 @@ bounds-roster-k : tie.Need-bounds-roster-k
 bounds-roster-k c = let f = c in omega (arith, within f, f.requires.0.room)
 
 returns : tie.Need-returns
-returns c = let f = c in sym (ap (slot_or_first f.args.roster.slots) f.in-At.is)
+returns c = let f = c in sym (ap (slot_or_first f.args.roster.slots) f.in-Some.is)
 
 pub slot_or_first_spec : {M : Type 1} → statement M
 slot_or_first_spec =

@@ -11,9 +11,9 @@ use Rattle.calls.proofs.release.fated.Statement.{statement}
 use Rattle.calls.proofs.release.fated.Tie as tie
 
 -- the transaction was found
-there : (c : tie.In-At) → AtSlot c.args.ledger (number_of c.args.tx) c.in-At.k
+there : (c : tie.In-Some) → AtSlot c.args.ledger (number_of c.args.tx) c.in-Some.k
 there c =
-    found_at c.args.ledger c.requires (number_of c.args.tx) c.in-At.k (sym c.find.ensures ∙ c.in-At.is)
+    found_at c.args.ledger c.requires (number_of c.args.tx) c.in-Some.k (sym c.find.ensures ∙ c.in-Some.is)
 
 find-requires : tie.Need-find-requires
 find-requires c κs = search rules
@@ -46,7 +46,7 @@ is_leg-requires c κs = search rules
 returns-else-is_leg : tie.Need-returns-else-is_leg
 unfolding plain_entry
 returns-else-is_leg c =
-    fated_other c.args.ledger c.requires (number_of c.args.tx) c.in-At.k _ (sym c.find.ensures ∙ c.in-At.is)
+    fated_other c.args.ledger c.requires (number_of c.args.tx) c.in-Some.k _ (sym c.find.ensures ∙ c.in-Some.is)
     (sym c.is_leg.ensures ∙ c.if-is_leg.false)
 
 remove_at-ledger-requires : tie.Need-remove_at-ledger-requires
@@ -59,7 +59,7 @@ without-ledger-requires c κs = search rules
 returns-then-is_leg : tie.Need-returns-then-is_leg
 unfolding plain_entry
 returns-then-is_leg c =
-    fated-leg c.args.ledger c.requires (number_of c.args.tx) c.in-At.k _ (sym c.find.ensures ∙ c.in-At.is)
+    fated-leg c.args.ledger c.requires (number_of c.args.tx) c.in-Some.k _ (sym c.find.ensures ∙ c.in-Some.is)
     (sym c.is_leg.ensures ∙ c.if-is_leg.true) c.remove_at-ledger.result c.without-ledger.result c.remove_at-ledger.ensures c.without-ledger.ensures
 
 pub fated_spec : {M : Type 1} → statement M

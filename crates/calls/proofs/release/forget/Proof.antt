@@ -23,14 +23,14 @@ returns-in_default c =
 
 remove_at-ledger-requires : tie.Need-remove_at-ledger-requires
 remove_at-ledger-requires c κs =
-    (c.requires.roster, (found_at c.args.ledger c.requires (number_of c.args.tx) c.in-At.k (sym c.find.ensures ∙ c.in-At.is)).place)
+    (c.requires.roster, (found_at c.args.ledger c.requires (number_of c.args.tx) c.in-Some.k (sym c.find.ensures ∙ c.in-Some.is)).place)
 
 without-ledger-requires : tie.Need-without-ledger-requires
 without-ledger-requires c κs = search rules
 
-returns-in-At : tie.Need-returns-in-At
-returns-in-At c =
-    forget-owed c.args.ledger c.requires (number_of c.args.tx) c.in-At.k (sym c.find.ensures ∙ c.in-At.is) c.remove_at-ledger.result c.without-ledger.result c.remove_at-ledger.ensures c.without-ledger.ensures
+returns-in-Some : tie.Need-returns-in-Some
+returns-in-Some c =
+    forget-owed c.args.ledger c.requires (number_of c.args.tx) c.in-Some.k (sym c.find.ensures ∙ c.in-Some.is) c.remove_at-ledger.result c.without-ledger.result c.remove_at-ledger.ensures c.without-ledger.ensures
 
 pub forget_spec : {M : Type 1} → statement M
 forget_spec =
@@ -41,5 +41,5 @@ forget_spec =
     remove_at-ledger-requires
     without-ledger-requires
     enum_told-1
-    returns-in-At
+    returns-in-Some
     returns-in_default)

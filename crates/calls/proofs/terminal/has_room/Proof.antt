@@ -27,7 +27,7 @@ returns-in_default c =
 
 returns : tie.Need-returns
 returns c =
-    room_new c.args.departures.len (length (on_file c.args.departures)) (has shard_of c.args.shard.0 (on_file c.args.departures)) (missing shard_of c.args.shard.0 (on_file c.args.departures) (sym c.find.ensures ∙ c.in-Nothing.is)).known (file-length c.args.departures c.requires)
+    room_new c.args.departures.len (length (on_file c.args.departures)) (has shard_of c.args.shard.0 (on_file c.args.departures)) (missing shard_of c.args.shard.0 (on_file c.args.departures) (sym c.find.ensures ∙ c.in-None.is)).known (file-length c.args.departures c.requires)
 
 pub has_room_spec : {M : Type 1} → statement M
 has_room_spec = tie.close (tie.spec find-requires enum_told-1 enum_told-in_default returns-in_default returns)

@@ -26,9 +26,9 @@ returns-in_default : tie.Need-returns-in_default
 returns-in_default c =
     unanswered (abandonment_answers) c.args.ledger (number_of c.args.tx) _ (not_found c.args.ledger c.requires (number_of c.args.tx) (rw c.in_default.is at c.slot_of.ensures)) c.yes_no.ensures
 
-there : (c : tie.In-At) → Owed c.args.ledger (number_of c.args.tx) c.in-At.slot
+there : (c : tie.In-Some) → Owed c.args.ledger (number_of c.args.tx) c.in-Some.slot
 there c =
-    owed_in c.args.ledger c.requires (number_of c.args.tx) c.in-At.slot (rw c.in-At.is at c.slot_of.ensures)
+    owed_in c.args.ledger c.requires (number_of c.args.tx) c.in-Some.slot (rw c.in-Some.is at c.slot_of.ensures)
 
 offset_bounds-ledger-slot : tie.Need-offset_bounds-ledger-slot
 offset_bounds-ledger-slot c = omega (arith, (there c).slot)
@@ -45,7 +45,7 @@ yes_no-requires-2 c κs = search rules
 returns : tie.Need-returns
 unfolding plain_entry
 returns c =
-    answered (abandonment_answers) c.args.ledger (number_of c.args.tx) c.in-At.slot _ _ _ (there c.before.before.before.before) c.yes_no-2.ensures c.is_abandonable.ensures
+    answered (abandonment_answers) c.args.ledger (number_of c.args.tx) c.in-Some.slot _ _ _ (there c.before.before.before.before) c.yes_no-2.ensures c.is_abandonable.ensures
 
 pub abandonment_answers_spec : {M : Type 1} → statement M
 abandonment_answers_spec =

@@ -76,7 +76,7 @@ returns : tie.Need-returns
 unfolding contents
 returns c =
     let none : c.question_refusal-no.result ≡ 0 = omega arith in
-    let a = not_found c.args.ledger c.requires (number_of c.args.tx) (sym c.find.ensures ∙ c.in-Nothing.is) in
+    let a = not_found c.args.ledger c.requires (number_of c.args.tx) (sym c.find.ensures ∙ c.in-None.is) in
     passes _ _ _ [] [] _ (goes_on _ _ _ (le-ltb _ _ c.if-inclusion-gt1.false) ∙ sym c.question_refusal-no.ensures ∙ none)
     (says _ _ _ _ c.yes_no-2.ensures (follows _ _ _ (sym c.is_absent.ensures ∙ not-false _ c.if-not-is_absent.false-raw) (sym a.known)))
 

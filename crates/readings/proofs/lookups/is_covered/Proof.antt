@@ -25,9 +25,9 @@ returns-in_default : tie.Need-returns-in_default
 returns-in_default c =
     unanswered (is_covered) c.args.ledger (number_of c.args.tx) _ (not_found c.args.ledger c.requires (number_of c.args.tx) (rw c.in_default.is at c.slot_of.ensures)) c.yes_no.ensures
 
-there : (c : tie.In-At) → Owed c.args.ledger (number_of c.args.tx) c.in-At.slot
+there : (c : tie.In-Some) → Owed c.args.ledger (number_of c.args.tx) c.in-Some.slot
 there c =
-    owed_in c.args.ledger c.requires (number_of c.args.tx) c.in-At.slot (rw c.in-At.is at c.slot_of.ensures)
+    owed_in c.args.ledger c.requires (number_of c.args.tx) c.in-Some.slot (rw c.in-Some.is at c.slot_of.ensures)
 
 offset_bounds-ledger-slot : tie.Need-offset_bounds-ledger-slot
 offset_bounds-ledger-slot c = omega (arith, (there c).slot)
@@ -43,7 +43,7 @@ yes_no-requires-2 c κs = search rules
 
 returns : tie.Need-returns
 returns c =
-    answered (is_covered) c.args.ledger (number_of c.args.tx) c.in-At.slot _ _ _ (there c.before.before.before) c.yes_no-2.ensures c.covered.ensures
+    answered (is_covered) c.args.ledger (number_of c.args.tx) c.in-Some.slot _ _ _ (there c.before.before.before) c.yes_no-2.ensures c.covered.ensures
 
 pub is_covered_spec : {M : Type 1} → statement M
 is_covered_spec =
