@@ -7,13 +7,13 @@ use mathlib.Core.List.{List, [], ◌∷◌}
 use native.Mathlib.Omega.{arith}
 use borrow.Author.Tests.{eq-eqb, eqb-true, ne_eqb, lt-ltb, ltb-true, le-ltb}
 use lib.Dec.{eqb, ltb}
-use lib.ListN.{length}
+use lib.ListN.{length, take, length-map}
+use lib.Seq.{length-take-le}
 use Rattle.lists.specs.Lists.{filled}
 use Rattle.lists.proofs.Tests.{same_test}
-use Rattle.lists.proofs.Zip.{length_pairs}
 use Rattle.rules.specs.Plain.{absence_key}
 use Rattle.entry.specs.declared.Entry.{Entry}
-use Rattle.entry.specs.Entry.{absences_of, absence, Fits}
+use Rattle.entry.specs.Entry.{absences_of, absence, plain_absence, Fits}
 
 module _ (s k shard key : ℕ) where
   abbrev one : ℕ
@@ -49,9 +49,7 @@ filled-length (x ∷ l) = sym (lt-ltb 0 (suc (length l)) (omega arith))
 
 module _ (e : Entry) (fits : Fits e) where
   pub length-absences : length (absences_of e) ≡ e.absences_len
-  length-absences =
-      length_pairs absence e.absent_shards e.absent_keys e.absences_len
-      (omega (arith, fits.absences_len, fits.absent_shards)) (omega (arith, fits.absences_len, fits.absent_keys))
+  length-absences = length-map (take e.absences_len e.absences) plain_absence ∙ length-take-le e.absences_len e.absences (omega (arith, fits.absences_len, fits.absences))
 
   pub filled-absences : filled (absences_of e) ≡ ltb 0 e.absences_len
   filled-absences = filled-length (absences_of e) ∙ ap (ltb 0) length-absences

@@ -2,34 +2,27 @@
 -- among the marks: they rise and are issued, and no more are issued than there are edges.
 -- Assumes nothing.
 use Prim.Native.Nat.{ℕ, ◌+◌, ◌≤◌, ◌<◌}
-use mathlib.Core.Path.{◌≡◌, sym, ap, ◌∙◌}
-use mathlib.Core.Bool.{Bool, true, false, ◌||◌, false≢true}
-use mathlib.Core.List.{List}
+use mathlib.Core.Path.{◌≡◌, ap, ◌∙◌}
+use mathlib.Core.Bool.{Bool, true, false, false≢true}
+use mathlib.Core.List.{List, map}
 use native.Mathlib.Omega.{arith}
 use lib.Dec.{eqb}
 use lib.ListN.{length, take, length-map}
-use Rattle.lists.specs.Lists.{has, include, self, zip_by}
+use Rattle.lists.specs.Lists.{has, include, self}
 use Rattle.lists.specs.Arrays.{rank, Inserted}
+use Rattle.lists.proofs.Distinct.{map-insert_at}
 use Rattle.lists.proofs.Keep.{length-keep}
 use Rattle.lists.proofs.Loops.{rank_le, include-rank}
 use Rattle.lists.proofs.Order.{ascending-include, every_include, length-include_new}
 use Rattle.lists.proofs.Room.{rising-within}
-use Rattle.lists.proofs.Tests.{or_left}
-use Rattle.lists.proofs.Zip.{insert-pairs}
 use Rattle.rules.specs.Numbers.{record_key}
 use Rattle.rules.specs.Plain as plain
 use Rattle.rules.specs.Plain.{Edge, Absence, Terms, absence_key, edges_from, issued, issues, is_settling}
 use Rattle.rules.specs.Good.{GoodEntry, GoodPart, Marked}
 use Rattle.entry.specs.declared.Entry.{Entry}
-use Rattle.entry.specs.Entry.{plain_entry, plain_part, absence, absences_of, below, Fits, RoomForAbsence, RoomForMark}
+use Rattle.entry.specs.declared.Absence as entry
+use Rattle.entry.specs.Entry.{plain_entry, plain_part, plain_absence, absence, absences_of, below, Fits, RoomForAbsence, RoomForMark}
 use Rattle.entry.proofs.Absent.{length-absences}
-
--- a flag that one of two raises, as the code comes by it
-pub either_first : (a b x : Bool) → x ≡ a → a ≡ true → x ≡ a || b
-either_first a b x h k = h ∙ k ∙ sym (or_left a b k)
-
-pub either_second : (a b x : Bool) → x ≡ b → a ≡ false → x ≡ a || b
-either_second a b x h k = h ∙ sym (ap (λ c. c || b) k)
 
 module _ (e : Entry) (shard key : ℕ) (room : RoomForAbsence (absence shard key) e) where
   abbrev n : ℕ
@@ -45,13 +38,11 @@ module _ (e : Entry) (shard key : ℕ) (room : RoomForAbsence (absence shard key
   pub absence-rank : rank (below it) (absences_of e) ≤ e.absences_len
   absence-rank = omega (arith, rank_le (below it) (absences_of e), length-absences e room.fits)
 
-  pub absence-put : (k : ℕ) (s t : List ℕ) → has absence_key (absence_key it) (absences_of e) ≡ false → k ≡ rank (below it) (absences_of e) →
-      Inserted e.absent_shards n k shard s → Inserted e.absent_keys n k key t →
-      zip_by absence (take (e.absences_len + 1) s) (take (e.absences_len + 1) t) ≡ include absence_key it (absences_of e)
-  absence-put k s t new at o p =
-      insert-pairs absence e.absent_shards e.absent_keys n (omega (arith, room.fits.absences_len, room.fits.absent_shards))
-      (omega (arith, room.fits.absences_len, room.fits.absent_keys)) k shard key s t (omega (arith, at, absence-rank)) o.front p.front
-      ∙ rw at (include-rank absence_key it (absences_of e) new)
+  pub absence-put : (k : ℕ) (x : entry.Absence) (l : List entry.Absence) → plain_absence x ≡ it → has absence_key (absence_key it) (absences_of e) ≡ false →
+      k ≡ rank (below it) (absences_of e) → Inserted e.absences n k x l →
+      map plain_absence (take (e.absences_len + 1) l) ≡ include absence_key it (absences_of e)
+  absence-put k x l q new at o =
+      ap (map plain_absence) o.front ∙ map-insert_at plain_absence k x (take n e.absences) ∙ rw (q, at) (include-rank absence_key it (absences_of e) new)
 
 marked_of : (p : plain.Part) (local : ℕ) (t : Terms) (m : List ℕ) (b : Bool) → is_settling p ≡ true → GoodPart p local t m b → Marked local t m b
 marked_of plain.whole local t m b h g = absurd (false≢true h)

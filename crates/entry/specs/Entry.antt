@@ -1,11 +1,14 @@
 -- What an entry's fields mean, as an entry of the plain ledger, and that they fit their arrays.
-use Rattle.std.specs.Prelude.{ℕ, ◌≤◌, ◌≡◌, Bool, List, ltb, length, take}
+use Rattle.std.specs.Prelude.{ℕ, ◌≤◌, ◌≡◌, Bool, List, map, ltb, length, take}
 use Rattle.lists.specs.Lists.{Every, Ascending, has, include, self, zip_by, cut}
 use Rattle.rules.specs.Plain as plain
 use Rattle.rules.specs.Words.{edge, with}
 use Rattle.types.specs.Transactions.{number_of}
 use Rattle.entry.specs.declared.Part.{Part}
 use Rattle.entry.specs.declared.Part.TheVariants.{Whole, Leg, Core, Remainder}
+use Rattle.entry.specs.declared.Certificate.{Certificate}
+use Rattle.entry.specs.declared.Certificate.TheVariants.{Missing, ByAbandonment, ByExecution}
+use Rattle.entry.specs.declared.Absence.{Absence}
 use Rattle.entry.specs.declared.Entry.{Entry}
 
 abbrev pub plain_part : Part → plain.Part
@@ -36,15 +39,23 @@ terms_of e =
 abbrev pub absence : ℕ → ℕ → plain.Absence
 absence shard key = record { shard = shard; key = key }
 
+abbrev pub plain_absence : Absence → plain.Absence
+plain_absence a = absence a.shard.0 a.key
+
 abbrev pub absences_of : Entry → List plain.Absence
-absences_of e = zip_by absence (take e.absences_len e.absent_shards) (take e.absences_len e.absent_keys)
+absences_of e = map plain_absence (take e.absences_len e.absences)
+
+abbrev pub certificate_number : Certificate → ℕ
+certificate_number Missing = 0
+certificate_number ByAbandonment = 1
+certificate_number ByExecution = 2
 
 unfoldable pub plain_entry : Entry → plain.Entry
 plain_entry e =
     record {
       terms = terms_of e;
       part = plain_part e.part;
-      certificate = e.certified;
+      certificate = certificate_number e.certified;
       departed_by = e.departed_by.0;
       absences = absences_of e;
       marks = take e.marks_len e.marks;
@@ -66,8 +77,7 @@ pub record Fits (e : Entry) : Type 0 where
   pub kinds : length e.kinds ≡ 8
   pub sizes : length e.sizes ≡ 8
   pub to : length e.to ≡ 32
-  pub absent_shards : length e.absent_shards ≡ 8
-  pub absent_keys : length e.absent_keys ≡ 8
+  pub absences : length e.absences ≡ 8
   pub marks : length e.marks ≡ 8
 
 -- e fits, and means this entry of the plain ledger

@@ -1,0 +1,51 @@
+use Rattle.std.proofs.Common.{refl, sym, ◌∙◌, arith}
+use Rattle.entry.specs.Entry.{plain_entry}
+use Rattle.lists.proofs.Order.{include-known}
+use Rattle.rules.specs.Plain.{absence_key}
+use Rattle.entry.specs.Entry.{absence, absences_of}
+use Rattle.entry.proofs.Put.{absence-room, absence-rank, absence-put}
+use Rattle.entry.proofs.Entry.with_absence.Goals as goal
+
+pub returns-then-is_read : goal.returns-then-is_read
+unfolding plain_entry
+returns-then-is_read c =
+    let a = c.args in
+    record {
+      fits = c.requires.fits;
+      plain = rw (include-known absence_key (absence a.shard.0 a.key) (absences_of a.self) c.requires.rising (sym c.is_read.ensures ∙ c.if-is_read.true));
+    }
+
+pub insert_at-requires : goal.insert_at-requires
+unfolding plain_entry
+insert_at-requires c =
+    let a = c.args in
+    let few = absence-room a.self a.shard.0 a.key c.requires (sym c.is_read.ensures ∙ c.if-is_read.false) in
+    (omega (arith, c.rank-k.ensures, absence-rank a.self a.shard.0 a.key c.requires), omega (arith, few, c.requires.fits.absences))
+
+pub returns : goal.returns
+unfolding plain_entry
+returns c =
+    let a = c.args in
+    let f = c.requires.fits in
+    let new = sym c.is_read.ensures ∙ c.if-is_read.false in
+    let few = absence-room a.self a.shard.0 a.key c.requires new in
+    record {
+      fits = record {
+        routes_len = f.routes_len;
+        core_len = f.core_len;
+        edges_len = f.edges_len;
+        absences_len = omega (arith, few);
+        marks_len = f.marks_len;
+        few = f.few;
+        routes = f.routes;
+        core = f.core;
+        ids = f.ids;
+        froms = f.froms;
+        kinds = f.kinds;
+        sizes = f.sizes;
+        to = f.to;
+        absences = c.insert_at.ensures.size ∙ f.absences;
+        marks = f.marks;
+      };
+      plain = rw (absence-put a.self a.shard.0 a.key c.requires _ _ _ refl new c.rank-k.ensures c.insert_at.ensures);
+    }
