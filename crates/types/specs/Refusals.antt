@@ -2,18 +2,18 @@
 use Rattle.std.specs.Prelude.{ℕ, Ok, Err}
 use Rattle.std.specs.Prelude.{Result}
 use Rattle.types.specs.declared.refusal.Refusal.{Refusal}
-use Rattle.types.specs.declared.refusal.Refusal.TheVariants.{Local, Spans, Time, Shard, Form, Entries, Absences, Departures, List}
+use Rattle.types.specs.declared.refusal.Refusal.TheVariants.{NoLocal, NoSpan, NoTime, NoShard, Malformed, EntriesFull, AbsencesFull, DeparturesFull, ListShort}
 
 abbrev pub refusal_number : Refusal → ℕ
-refusal_number Local = 1
-refusal_number Spans = 2
-refusal_number Time = 3
-refusal_number Shard = 4
-refusal_number Form = 5
-refusal_number Entries = 6
-refusal_number Absences = 7
-refusal_number Departures = 8
-refusal_number List = 9
+refusal_number NoLocal = 1
+refusal_number NoSpan = 2
+refusal_number NoTime = 3
+refusal_number NoShard = 4
+refusal_number Malformed = 5
+refusal_number EntriesFull = 6
+refusal_number AbsencesFull = 7
+refusal_number DeparturesFull = 8
+refusal_number ListShort = 9
 
 abbrev pub refused_in : {A : Type 0} → Result A Refusal → ℕ
 refused_in (Ok x) = 0

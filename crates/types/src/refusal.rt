@@ -5,18 +5,18 @@ ghost use Rattle.types.specs.Refusals.{refusal_number};
 #[derive(Clone, Copy, PartialEq, Eq)]
 pub enum Refusal {
     // Making: local is no shard, or a span is none.
-    Local = 1,
-    Spans = 2,
+    NoLocal = 1,
+    NoSpan = 2,
     // Reading: no time, no shard, or words and codes of no allowed form.
-    Time = 3,
-    Shard = 4,
-    Form = 5,
+    NoTime = 3,
+    NoShard = 4,
+    Malformed = 5,
     // Taking in: no entry, absence or departure is free.
-    Entries = 6,
-    Absences = 7,
-    Departures = 8,
+    EntriesFull = 6,
+    AbsencesFull = 7,
+    DeparturesFull = 8,
     // Writing: the lent list is too short.
-    List = 9,
+    ListShort = 9,
 }
 
 impl Refusal {
