@@ -16,9 +16,13 @@ use Rattle.rules.specs.Good.{GoodDeparture}
 use Rattle.store.specs.declared.departures.Departure.{Departure}
 use Rattle.store.specs.declared.departures.Departures.{Departures}
 use Rattle.store.specs.Departures as departures
-use Rattle.store.specs.Departures.{plain_departure, on_file}
+use Rattle.std.specs.Prelude.{Option, Some, None, is_none}
+use Rattle.types.specs.declared.Time.{Time}
+use Rattle.rules.specs.Readings.{is_unstamped}
+use Rattle.store.specs.Departures.{plain_departure, stamp_of, on_file}
 use Rattle.store.proofs.Filed.{all, all-front, all-length, all-at, file-length}
-use Rattle.shard_lists.specs.Sets.{Set, Holds, lacks_stamp, unstamped_on}
+use Rattle.shard_lists.specs.declared.set.Set.{Set}
+use Rattle.shard_lists.specs.Sets.{Holds, lacks_stamp, unstamped_on}
 use Rattle.shard_lists.proofs.Gather.{Written, written_out}
 
 module _ (x : Departures) (h : departures.Sound x) where
@@ -57,10 +61,14 @@ module _ (x : Departures) (h : departures.Sound x) where
 
   -- those without a stamp
 
-  pub stamped_out : (d : Departure) (i : ℕ) → i < x.len → (get_or x.items i d).stamped ≡ true →
-      unstamped_on (drop i (on_file x)) ≡ unstamped_on (drop (i + 1) (on_file x))
-  stamped_out d i k t = pass lacks_stamp d i k (rw t)
+  lacking : (s : Option Time) (b : Bool) → b ≡ is_none s → is_unstamped (stamp_of s) ≡ b
+  lacking None b e = sym e
+  lacking (Some t) b e = sym e
 
-  pub unstamped_in : (d : Departure) (i : ℕ) → i < x.len → (get_or x.items i d).stamped ≡ false →
+  pub stamped_out : (d : Departure) (i : ℕ) → i < x.len → false ≡ is_none (get_or x.items i d).until →
+      unstamped_on (drop i (on_file x)) ≡ unstamped_on (drop (i + 1) (on_file x))
+  stamped_out d i k t = pass lacks_stamp d i k (lacking (get_or x.items i d).until false t)
+
+  pub unstamped_in : (d : Departure) (i : ℕ) → i < x.len → true ≡ is_none (get_or x.items i d).until →
       unstamped_on (drop i (on_file x)) ≡ (get_or x.items i d).shard.0 ∷ unstamped_on (drop (i + 1) (on_file x))
-  unstamped_in d i k t = pick lacks_stamp d i k (rw t)
+  unstamped_in d i k t = pick lacks_stamp d i k (lacking (get_or x.items i d).until true t)
