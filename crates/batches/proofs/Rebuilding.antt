@@ -1,6 +1,7 @@
 -- An abandonment record, group by group: what is still to come does to the ledger in hand what all groups do to the one handed in.
 -- An owed entry takes the shard, any other is rebuilt; that there is room for each was counted before.
 -- Assumes nothing.
+use Rattle.std.specs.Prelude.{Some, None}
 use Prim.Native.Nat.{ℕ, zero, suc, ◌+◌, ◌-◌, ◌*◌, ◌≤◌, ◌<◌, min}
 use mathlib.Core.Path.{◌≡◌, refl, sym, ap, ap₂, ◌∙◌, subst}
 use mathlib.Core.Bool.{Bool, true, false, cond, not}
@@ -12,7 +13,6 @@ use lib.Seq.{length-take-le}
 use borrow.Author.Tests.{ltb-false}
 use Rattle.lists.specs.Lists.{Every, total, at, has, include, change, self, set_of}
 use Rattle.lists.specs.Arrays.{place, rank}
-use Rattle.lists.specs.declared.Found.TheVariants.{At, Nothing}
 use Rattle.lists.proofs.Items.{counted-few}
 use Rattle.lists.proofs.Distinct.{every_at}
 use Rattle.lists.proofs.Loops.{rank_le}
@@ -199,7 +199,7 @@ module _ (l₀ : Ledger) (ws : List ℕ) (p : Passed ws (contents l₀)) (l : Le
             (cond b 0 1) (ap (λ d. cond d 0 1) (sym e));
       }
 
-  pub group_owed : (k : ℕ) (d y : Entry) → place (is (number_of x.tx)) 0 (keys_of l.roster) ≡ At k →
+  pub group_owed : (k : ℕ) (d y : Entry) → place (is (number_of x.tx)) 0 (keys_of l.roster) ≡ Some k →
       Means (with_departed_by shard (plain_entry (lying_at l k d))) y →
       Rebuilding l₀ ws (storing l (slot_at l k) y) (start + reach_at ws i) n (i + 1)
   group_owed k d y e w =
@@ -209,11 +209,11 @@ module _ (l₀ : Ledger) (ws : List ℕ) (p : Passed ws (contents l₀)) (l : Le
       (next true _ (ap (λ t. has transaction_of t (contents l).entries) (sym of_group) ∙ (found_at l v.doing.held (number_of x.tx) k e).known)
       (subst (λ t. Became (with_entries (change transaction_of t (with_departed_by shard) (contents l).entries) (contents l)) (storing l (slot_at l k) y)) of_group b))
 
-  unknown : place (is (number_of x.tx)) 0 (keys_of l.roster) ≡ Nothing → has transaction_of g.transaction (contents l).entries ≡ false
+  unknown : place (is (number_of x.tx)) 0 (keys_of l.roster) ≡ None → has transaction_of g.transaction (contents l).entries ≡ false
   unknown e = ap (λ t. has transaction_of t (contents l).entries) (sym of_group) ∙ (not_found l v.doing.held (number_of x.tx) e).known
 
   -- what was counted leaves a place
-  pub group_room : place (is (number_of x.tx)) 0 (keys_of l.roster) ≡ Nothing → l.roster.len < 48
+  pub group_room : place (is (number_of x.tx)) 0 (keys_of l.roster) ≡ None → l.roster.len < 48
   unfolding contents
   group_room e =
       let es = (contents l).entries in
@@ -222,11 +222,11 @@ module _ (l₀ : Ledger) (ws : List ℕ) (p : Passed ws (contents l₀)) (l : Le
       ap (λ y. rebuilt_by shard y es) more ∙ ap (λ b. cond b 0 1 + rebuilt_by shard rest (with_group shard g es)) (unknown e) in
       omega (arith, one, p.room, groups_count shard (drop i (record_groups ws)) es, ap (λ (p : Plain). length p.entries) (left_to_do l₀ ws l start n i v), entries-length l v.doing.held)
 
-  room-left : place (is (number_of x.tx)) 0 (keys_of l.roster) ≡ Nothing → length (contents l).entries < 48
+  room-left : place (is (number_of x.tx)) 0 (keys_of l.roster) ≡ None → length (contents l).entries < 48
   unfolding contents
   room-left e = omega (arith, group_room e, entries-length l v.doing.held)
 
-  pub group_new : Every (Holds is_word) ws → (k : ℕ) (r : Roster) → place (is (number_of x.tx)) 0 (keys_of l.roster) ≡ Nothing → k ≡ rank (below (number_of x.tx)) (keys_of l.roster) →
+  pub group_new : Every (Holds is_word) ws → (k : ℕ) (r : Roster) → place (is (number_of x.tx)) 0 (keys_of l.roster) ≡ None → k ≡ rank (below (number_of x.tx)) (keys_of l.roster) →
       Inserted l.roster k (number_of x.tx) r →
       Rebuilding l₀ ws (with_parts l l.rebuilt r (set l.entries (free_slot l.roster) x) l.issuers l.departures) (start + reach_at ws i) (n + 1) (i + 1)
   group_new words k r e q o =

@@ -1,6 +1,7 @@
 -- Finalization, line by line: what is still to come does to the ledger in hand what all lines do to the one handed in. Each line
 -- skips, turns or releases as the rule on its entry says.
 -- Assumes nothing.
+use Rattle.std.specs.Prelude.{Some, None}
 use Prim.Native.Nat.{ℕ, zero, suc, ◌+◌, ◌≤◌}
 use mathlib.Core.Path.{◌≡◌, refl, sym, ap, ap₂, ◌∙◌, subst}
 use mathlib.Core.Bool.{Bool, true, false, cond, not, ◌&&◌, false≢true}
@@ -13,7 +14,6 @@ use borrow.Author.Tests.{leb-true, le-leb, eqb-false}
 use lib.ListN.{drop}
 use Rattle.lists.specs.Lists.{keep, has, get, change, self}
 use Rattle.lists.specs.Arrays.{place}
-use Rattle.lists.specs.declared.Found.TheVariants.{At, Nothing}
 use Rattle.lists.proofs.Items.{counted-few}
 use Rattle.lists.proofs.Tests.{and_left, and_right}
 use Rattle.rules.specs.Plain as plain
@@ -153,12 +153,12 @@ module _ (l₀ : Ledger) (ws : List ℕ) (l : Ledger) (released i : ℕ) (v : Re
   same m n w = rw (let z : n + 0 ≡ n = omega arith in z) at w
 
   -- unknown is skipped
-  pub line_unknown : place (is tx) 0 (keys_of l.roster) ≡ Nothing → Resolving l₀ ws l released (i + 1)
+  pub line_unknown : place (is tx) 0 (keys_of l.roster) ≡ None → Resolving l₀ ws l released (i + 1)
   line_unknown e =
       same l released (next skip l (ap (ruling (contents l).local (deciding ws) x) (not_found l v.held tx e).got) (record { held = v.held; holds = refl }))
 
   -- the entry is at k, and s is the rule on it, by a code that is one of the three
-  module _ (k : ℕ) (d : Entry) (e : place (is tx) 0 (keys_of l.roster) ≡ At k) (coded : leb 1 x.decision && leb x.decision 3 ≡ true) (s : declared.Ruling)
+  module _ (k : ℕ) (d : Entry) (e : place (is tx) 0 (keys_of l.roster) ≡ Some k) (coded : leb 1 x.decision && leb x.decision 3 ≡ true) (s : declared.Ruling)
       (o : s ≡ ruled_on l.local.0 (deciding ws) x (plain_entry (lying_at l k d))) where
     abbrev old : Entry
     old = lying_at l k d

@@ -12,7 +12,6 @@ ghost use Rattle.types.specs.Transactions.{number_of};
 
 use crate::items_of;
 use ledger::{Done, Ledger};
-use lists::Found;
 use lists::slices::size_at;
 use store::roster::Roster;
 use types::{Transaction, is_shard};
@@ -48,7 +47,7 @@ fn count_new(roster: Roster, words: &[u64]) -> usize
         let tx = group_transaction(words, i);
         let earlier = i;
         i += 1;
-        let Found::Nothing = roster.find(tx) else {
+        let None = roster.find(tx) else {
             continue;
         };
         if is_among(words, earlier, tx) {
@@ -107,12 +106,12 @@ pub fn record_abandonment(mut ledger: Ledger, words: &[u64]) -> Done
         let roster = ledger.roster;
         let tx = e.tx;
         match roster.find(tx) {
-            Found::At(k) => {
+            Some(k) => {
                 let slot = roster.slots[k];
                 let old = ledger.entries[slot];
                 ledger.entries[slot] = old.with_departed_by(shard);
             }
-            Found::Nothing => {
+            None => {
                 let end = roster.len;
                 let slot = roster.slots[end];
                 ledger.roster = roster.insert_at(roster.rank(tx), tx);

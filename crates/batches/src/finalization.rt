@@ -14,7 +14,6 @@ ghost use Rattle.types.specs.Transactions.{number_of};
 use crate::items_of;
 use entry::{Entry, Part};
 use ledger::{Done, Ledger};
-use lists::Found;
 use types::{Shard, Transaction};
 use words::finalization::{Line, finalization_formed, is_deciding, line_at};
 
@@ -97,7 +96,7 @@ pub fn release_resolved(mut ledger: Ledger, words: &[u64]) -> Done
         let tx = line.tx;
         i += 1;
         let roster = ledger.roster;
-        let Found::At(k) = roster.find(tx) else {
+        let Some(k) = roster.find(tx) else {
             continue;
         };
         let slot = roster.slots[k];

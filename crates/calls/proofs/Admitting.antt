@@ -1,5 +1,6 @@
 -- Admission: what each line of its table and each branch after it gives, from what the parts did.
 -- Assumes nothing.
+use Rattle.std.specs.Prelude.{Some, None}
 use Prim.Native.Nat.{ℕ, zero, suc, ◌-◌, ◌≤◌, ◌<◌}
 use mathlib.Core.Path.{◌≡◌, refl, sym, ap, ◌∙◌}
 use mathlib.Core.Bool.{Bool, true, false, not}
@@ -10,8 +11,6 @@ use lib.ListN.{length, set}
 use borrow.Author.Tests.{lt-ltb, le-ltb, ltb-true, le-leb, lt-leb, leb-true, leb-false}
 use Rattle.lists.specs.Lists.{Every, has, include, include_all}
 use Rattle.lists.specs.Arrays.{place, rank}
-use Rattle.lists.specs.declared.Found.{Found}
-use Rattle.lists.specs.declared.Found.TheVariants.{At, Nothing}
 use Rattle.lists.proofs.Tests.{by_cond, same_test}
 use Rattle.lists.proofs.Parts.{every_get_d}
 use Rattle.lists.proofs.Order.{include-known}
@@ -26,6 +25,9 @@ use Rattle.rules.specs.Good.{Holds, Good}
 use Rattle.rules.proofs.Kept.{step-good, passed}
 use Rattle.rules.proofs.Named.{IsOfWord, index-size, index_rises, good-words}
 use Rattle.rules.proofs.Reindex.{index_of-include}
+use Rattle.types.specs.declared.refusal.Refusal.{Refusal}
+use Rattle.types.specs.declared.refusal.Refusal.TheVariants.{EntriesFull}
+use Rattle.types.specs.Refusals.{refusal_number}
 use Rattle.types.specs.Transactions.{number_of}
 use Rattle.entry.specs.declared.Entry.{Entry}
 use Rattle.entry.specs.Entry.{plain_entry, Means}
@@ -38,23 +40,9 @@ use Rattle.ledger.specs.Contents.{contents, Held, with_parts}
 use Rattle.ledger.specs.Meets.{Meets, says, says_no}
 use Rattle.ledger.proofs.Places.{entries-length, found_at, not_found}
 use Rattle.ledger.proofs.Lift.{taken_in}
-use Rattle.ledger.proofs.Meeting.{refuses, passes, answers, good-after}
+use Rattle.ledger.proofs.Meeting.{numbered, refuses, passes, answers, good-after}
 use Rattle.calls.specs.Naming.{Nameable, with_pairs}
-use Rattle.calls.specs.Refusals.{words_refusal, room_refusal, table_refusal}
-
--- the lines that words decide, from the top
-module _ (ws : List ℕ) where
-  pub not_formed : admission_formed ws ≡ false → 5 ≡ words_refusal ws
-  not_formed f = rw f
-
-  pub not-timed : admission_formed ws ≡ true → admission_timed ws ≡ false → 3 ≡ words_refusal ws
-  not-timed f t = rw (f, t)
-
-  pub not_placed : admission_formed ws ≡ true → admission_timed ws ≡ true → admission_placed ws ≡ false → 4 ≡ words_refusal ws
-  not_placed f t p = rw (f, t, p)
-
-  pub all_placed : admission_formed ws ≡ true → admission_timed ws ≡ true → admission_placed ws ≡ true → 0 ≡ words_refusal ws
-  all_placed f t p = rw (f, t, p)
+use Rattle.calls.specs.Refusals.{words_refusal}
 
 abbrev lines : Bool → Bool → Bool → ℕ → ℕ
 lines a b c m = not a gives 5 then not b gives 3 then not c gives 4 then m
@@ -77,29 +65,6 @@ lines_none true false c m e = absurd (omega arith)
 lines_none true true false m e = absurd (omega arith)
 lines_none true true true m e = (refl, e)
 
--- the words' lines, then the room
-module _ (ws : List ℕ) (found : Found) (n r : ℕ) (e : r ≡ words_refusal ws) where
-  pub words_first : 0 < r → r ≡ table_refusal ws found n
-  words_first q = go r e q
-    where
-      go : (r : ℕ) → r ≡ words_refusal ws → 0 < r → r ≡ table_refusal ws found n
-      go zero e q = absurd (omega arith)
-      go (suc k) e q = sym (lines_first (admission_formed ws) (admission_timed ws) (admission_placed ws) (room_refusal found n) k (sym e))
-
-  pub room_last : r ≤ 0 → (m : ℕ) → m ≡ room_refusal found n → m ≡ table_refusal ws found n
-  room_last q m u =
-      let z : words_refusal ws ≡ 0 = omega arith in
-      u ∙ sym (lines_pass (admission_formed ws) (admission_timed ws) (admission_placed ws) (room_refusal found n) z)
-
-pub found_says : (found : Found) (k n : ℕ) → found ≡ At k → 0 ≡ room_refusal found n
-found_says found k n e = rw e
-
-pub full_says : (found : Found) (n : ℕ) → found ≡ Nothing → 48 ≤ n → 6 ≡ room_refusal found n
-full_says found n e h = rw (e, le-leb 48 n h)
-
-pub free_says : (found : Found) (n : ℕ) → found ≡ Nothing → n < 48 → 0 ≡ room_refusal found n
-free_says found n e h = rw (e, lt-leb 48 n h)
-
 pub admitted-transaction : (local : ℕ) (ws : List ℕ) → transaction_of (admitted local ws) ≡ (admission_terms ws).transaction
 unfolding admitted
 admitted-transaction local ws = by_cond (λ e. transaction_of e ≡ (admission_terms ws).transaction) (eqb (decomposed ws) 0) _ _ (λ _. refl) (λ _. refl)
@@ -115,50 +80,50 @@ module _ (l : Ledger) (h : Held l) (ws : List ℕ) where
   unfolding contents
   count = entries-length l h
 
-  room_same : (found : Found) → place (is t) 0 (keys_of l.roster) ≡ found → (no_room_for (t ∷ []) (contents l) gives 6 then 0) ≡ room_refusal found l.roster.len
-  room_same (At k) q = rw ((found_at l h t k q).known, le-ltb (48 - length (contents l).entries) 0 (omega arith))
-  room_same Nothing q =
-      let full : ltb (48 - length (contents l).entries) 1 ≡ leb 48 l.roster.len =
-      same_test _ _
+  room_known : (k : ℕ) → place (is t) 0 (keys_of l.roster) ≡ Some k → no_room_for (t ∷ []) (contents l) ≡ false
+  room_known k q = rw ((found_at l h t k q).known, le-ltb (48 - length (contents l).entries) 0 (omega arith))
+
+  room_new : place (is t) 0 (keys_of l.roster) ≡ None → no_room_for (t ∷ []) (contents l) ≡ leb 48 l.roster.len
+  room_new q =
+      rw (not_found l h t q).known
+      (same_test _ _
       (λ a. le-leb 48 l.roster.len (omega (arith, count, ltb-true (48 - length (contents l).entries) 1 a)))
-      (λ b. lt-ltb (48 - length (contents l).entries) 1 (omega (arith, count, leb-true 48 l.roster.len b))) in
-      rw ((not_found l h t q).known, full)
+      (λ b. lt-ltb (48 - length (contents l).entries) 1 (omega (arith, count, leb-true 48 l.roster.len b))))
 
-  -- f: what the roster says of the transaction; r: the number that the table gives
-  module _ (f : Found) (q : f ≡ place (is t) 0 (keys_of l.roster)) (r : ℕ) (e : r ≡ table_refusal ws f l.roster.len) where
-    refused_by : admission_refusal ws (contents l) ≡ r
-    refused_by = ap (lines (admission_formed ws) (admission_timed ws) (admission_placed ws)) (room_same f (sym q)) ∙ sym e
+  pub turned_away : (r : Refusal) → refusal_number r ≡ words_refusal ws → Meets (after_admission ws (contents l)) [] [] (says_no r l)
+  unfolding after_admission
+  turned_away r e =
+      let n = numbered r in
+      refuses r l [] (admission_refusal ws (contents l)) _ h (lines_first (admission_formed ws) (admission_timed ws) (admission_placed ws) _ n.0 (sym e ∙ n.1) ∙ sym n.1)
 
-    pub turned_away : 0 < r → Meets (after_admission ws (contents l)) [] [] (says_no r l)
+  -- where the words are allowed, the room decides
+  module _ (z : 0 ≡ words_refusal ws) where
+    pub is_formed : admission_formed ws ≡ true
+    is_formed = (lines_none (admission_formed ws) (admission_timed ws) (admission_placed ws) 0 (sym z)).0
+
+    last_line : (b : Bool) → no_room_for (t ∷ []) (contents l) ≡ b → admission_refusal ws (contents l) ≡ (b gives 6 then 0)
+    last_line b e =
+        lines_pass (admission_formed ws) (admission_timed ws) (admission_placed ws) (no_room_for (t ∷ []) (contents l) gives 6 then 0) (sym z)
+        ∙ ap (λ c. c gives 6 then 0) e
+
+    -- owed already
+    pub skipped : (k : ℕ) → place (is t) 0 (keys_of l.roster) ≡ Some k → Meets (after_admission ws (contents l)) [] [] (says 0 l)
     unfolding after_admission
-    turned_away p = go r refused_by p
-      where
-        go : (r : ℕ) → admission_refusal ws (contents l) ≡ r → 0 < r → Meets (after_admission ws (contents l)) [] [] (says_no r l)
-        go zero u p = absurd (omega arith)
-        go (suc n) u p = refuses n l [] (admission_refusal ws (contents l)) _ (says_no (suc n) l) h u refl
+    skipped k u =
+        let known = (found_at l h t k u).known in
+        let stands : has transaction_of (transaction_of (admitted (contents l).local ws)) (contents l).entries ≡ true = rw (admitted-transaction (contents l).local ws) known in
+        let kept = include-known transaction_of (admitted (contents l).local ws) (contents l).entries h.good.entries.rows.order stands in
+        passes (admission_refusal ws (contents l)) (contents l) o [] [] _ (last_line false (room_known k u))
+        (rw (known, kept) (answers 0 l (contents l) (says 0 l) (record { held = h; holds = refl }) refl))
 
-    module _ (z : r ≤ 0) where
-      fits : admission_refusal ws (contents l) ≡ 0
-      fits = refused_by ∙ (let u : r ≡ 0 = omega arith in u)
-
-      pub is_formed : admission_formed ws ≡ true
-      is_formed = (lines_none (admission_formed ws) (admission_timed ws) (admission_placed ws) (room_refusal f l.roster.len) (omega arith)).0
-
-      -- owed already
-      pub skipped : (k : ℕ) → f ≡ At k → Meets (after_admission ws (contents l)) [] [] (says 0 l)
+    module _ (u : place (is t) 0 (keys_of l.roster) ≡ None) where
+      pub full : 48 ≤ l.roster.len → Meets (after_admission ws (contents l)) [] [] (says_no EntriesFull l)
       unfolding after_admission
-      skipped k u =
-          let known = (found_at l h t k (sym q ∙ u)).known in
-          let stands : has transaction_of (transaction_of (admitted (contents l).local ws)) (contents l).entries ≡ true = rw (admitted-transaction (contents l).local ws) known in
-          let kept = include-known transaction_of (admitted (contents l).local ws) (contents l).entries h.good.entries.rows.order stands in
-          passes (admission_refusal ws (contents l)) (contents l) o [] [] _ fits
-          (rw (known, kept) (answers 0 l (contents l) (says 0 l) (record { held = h; holds = refl }) refl))
+      full f = refuses EntriesFull l [] (admission_refusal ws (contents l)) _ h (last_line true (room_new u ∙ le-leb 48 l.roster.len f))
 
-      module _ (u : f ≡ Nothing) where
-        pub is_free : l.roster.len < 48
-        is_free =
-            let none : (leb 48 l.roster.len gives 6 then 0) ≡ 0 = rw u at (lines_none (admission_formed ws) (admission_timed ws) (admission_placed ws) (room_refusal f l.roster.len) (omega arith)).1 in
-            omega (arith, leb-false 48 l.roster.len (passed (leb 48 l.roster.len) 5 0 none).0)
+      module _ (free : l.roster.len < 48) where
+        fits : admission_refusal ws (contents l) ≡ 0
+        fits = last_line false (room_new u ∙ lt-leb 48 l.roster.len free)
 
         module _ (x : Entry) (m : Means (admitted l.local.0 ws) x) (w : Every (Holds is_word) ws) where
           plain : plain_entry x ≡ admitted (contents l).local ws
@@ -169,8 +134,8 @@ module _ (l : Ledger) (h : Held l) (ws : List ℕ) where
           unfolding plain_entry
           same = ap transaction_of plain ∙ admitted-transaction (contents l).local ws
 
-          missed : place (is (number_of x.tx)) 0 (keys_of l.roster) ≡ Nothing
-          missed = rw same (sym q ∙ u)
+          missed : place (is (number_of x.tx)) 0 (keys_of l.roster) ≡ None
+          missed = rw same u
 
           unknown : has transaction_of (transaction_of (plain_entry x)) (contents l).entries ≡ false
           unfolding plain_entry
@@ -203,7 +168,7 @@ module _ (l : Ledger) (h : Held l) (ws : List ℕ) where
           unfolding after_admission
           admits k v b op y i =
               let taken =
-              taken_in l h k x b y missed (rw same v) is_free m.fits word (rw same op)
+              taken_in l h k x b y missed (rw same v) free m.fits word (rw same op)
               (record { sound = i.sound; pairs = i.pairs ∙ ap (include_all pair_key (pairs_of l.local.0 (plain_entry x))) h.issuers.pairs }) good in
               passes (admission_refusal ws (contents l)) (contents l) o [] [] _ fits
-              (rw ((not_found l h t (sym q ∙ u)).known, ← plain) (answers 1 _ _ _ taken refl))
+              (rw ((not_found l h t u).known, ← plain) (answers 1 _ _ _ taken refl))

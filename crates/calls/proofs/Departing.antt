@@ -18,6 +18,9 @@ use Rattle.rules.specs.Outcome.{done, ◌gives◌then◌}
 use Rattle.rules.specs.Calls.{terminal, stamp, stamped, departed, terminal_refusal, after_terminal, stamp_refusal, after_stamp}
 use Rattle.rules.specs.Good.{Good}
 use Rattle.rules.proofs.Kept.{step-good}
+use Rattle.types.specs.declared.refusal.Refusal.{Refusal}
+use Rattle.types.specs.declared.refusal.Refusal.TheVariants.{DeparturesFull}
+use Rattle.types.specs.Refusals.{refusal_number}
 use Rattle.store.specs.declared.departures.Departures.{Departures}
 use Rattle.store.specs.Departures as departures
 use Rattle.store.specs.Departures.{on_file}
@@ -25,16 +28,15 @@ use Rattle.ledger.specs.declared.Ledger.{Ledger}
 use Rattle.ledger.specs.Contents.{contents, Held, with_parts}
 use Rattle.ledger.specs.Meets.{Meets, says, says_no}
 use Rattle.ledger.proofs.Lift.{filed}
-use Rattle.ledger.proofs.Meeting.{refuses, passes, silent, good-after}
+use Rattle.ledger.proofs.Meeting.{numbered, refuses, passes, silent, good-after}
 use Rattle.calls.specs.Terminals.{is_until, words_refusal, filed_as}
 
 module _ (l : Ledger) (h : Held l) (shard : ℕ) where
   -- Stamp.
   module _ (until : ℕ) where
-    pub stamp-refused : (n : ℕ) → n ≡ stamp_refusal shard until → 0 < n → Meets (after_stamp shard until (contents l)) [] [] (says_no n l)
+    pub stamp-refused : (r : Refusal) → refusal_number r ≡ stamp_refusal shard until → Meets (after_stamp shard until (contents l)) [] [] (says_no r l)
     unfolding after_stamp
-    stamp-refused zero e p = absurd (omega arith)
-    stamp-refused (suc n) e p = refuses n l [] (stamp_refusal shard until) _ (says_no (suc n) l) h (sym e) refl
+    stamp-refused r e = refuses r l [] (stamp_refusal shard until) _ h (sym e)
 
     pub stamp-known : stamp_refusal shard until ≡ 0 → (x : Departures) → departures.Holds (change shard_of shard (stamped until) (on_file l.departures)) x →
         Meets (after_stamp shard until (contents l)) [] [] (says 0 (with_parts l l.rebuilt l.roster l.entries l.issuers x))
@@ -70,10 +72,11 @@ module _ (l : Ledger) (h : Held l) (shard : ℕ) where
         go false false true d q = absurd (omega arith)
         go false false false d q = refl
 
-    pub terminal-refused : (n : ℕ) → n ≡ words_refusal shard cut is_stamped until → 0 < n → Meets (after_terminal shard cut is_stamped until (contents l)) [] [] (says_no n l)
+    pub terminal-refused : (r : Refusal) → refusal_number r ≡ words_refusal shard cut is_stamped until → Meets (after_terminal shard cut is_stamped until (contents l)) [] [] (says_no r l)
     unfolding after_terminal
-    terminal-refused zero e p = absurd (omega arith)
-    terminal-refused (suc n) e p = refuses n l [] (terminal_refusal shard cut is_stamped until (contents l)) _ (says_no (suc n) l) h (first_lines n (sym e)) refl
+    terminal-refused r e =
+        let n = numbered r in
+        refuses r l [] (terminal_refusal shard cut is_stamped until (contents l)) _ h (first_lines n.0 (sym e ∙ n.1) ∙ sym n.1)
 
     -- whether there is room is the other way round
     room_full : (b : Bool) → has shard_of shard (contents l).departures || not (leb 32 (length (contents l).departures)) ≡ b → full ≡ not b
@@ -85,10 +88,10 @@ module _ (l : Ledger) (h : Held l) (shard : ℕ) where
         go false false q = ap not q
 
     pub terminal_full : 0 ≡ words_refusal shard cut is_stamped until → has shard_of shard (contents l).departures || not (leb 32 (length (contents l).departures)) ≡ false →
-        Meets (after_terminal shard cut is_stamped until (contents l)) [] [] (says_no 8 l)
+        Meets (after_terminal shard cut is_stamped until (contents l)) [] [] (says_no DeparturesFull l)
     unfolding after_terminal
     terminal_full e q =
-        refuses 7 l [] (terminal_refusal shard cut is_stamped until (contents l)) _ (says_no 8 l) h (last_line (sym e) ∙ rw (room_full false q)) refl
+        refuses DeparturesFull l [] (terminal_refusal shard cut is_stamped until (contents l)) _ h (last_line (sym e) ∙ rw (room_full false q))
 
     module _ (e : 0 ≡ words_refusal shard cut is_stamped until) (q : has shard_of shard (contents l).departures || not (leb 32 (length (contents l).departures)) ≡ true) where
       none : terminal_refusal shard cut is_stamped until (contents l) ≡ 0
@@ -131,28 +134,6 @@ module _ (shard cut is_stamped until : ℕ) (d : Departures) where
 pub file_rises : (l : Ledger) → Held l → departures.Rising l.departures
 unfolding contents
 file_rises l h = h.good.departures.rows.order
-
--- the words' lines of a terminal's table, one by one
-module _ (shard cut is_stamped until : ℕ) where
-  pub words_code : 1 < is_stamped → 5 ≡ words_refusal shard cut is_stamped until
-  unfolding words_refusal
-  words_code h = rw (lt-ltb 1 is_stamped h)
-
-  pub words-cut : is_stamped ≤ 1 → is_time cut ≡ false → 3 ≡ words_refusal shard cut is_stamped until
-  unfolding words_refusal
-  words-cut h k = rw (le-ltb 1 is_stamped h, k)
-
-  pub words_until : is_stamped ≤ 1 → is_time cut ≡ true → is_until is_stamped until ≡ false → 3 ≡ words_refusal shard cut is_stamped until
-  unfolding words_refusal
-  words_until h k u = rw (le-ltb 1 is_stamped h, k, u)
-
-  pub words-shard : is_stamped ≤ 1 → is_time cut ≡ true → is_until is_stamped until ≡ true → is_shard shard ≡ false → 4 ≡ words_refusal shard cut is_stamped until
-  unfolding words_refusal
-  words-shard h k u s = rw (le-ltb 1 is_stamped h, k, u, s)
-
-  pub words-none : is_stamped ≤ 1 → is_time cut ≡ true → is_until is_stamped until ≡ true → is_shard shard ≡ true → 0 ≡ words_refusal shard cut is_stamped until
-  unfolding words_refusal
-  words-none h k u s = rw (le-ltb 1 is_stamped h, k, u, s)
 
 -- room: the shard stands, or fewer than 32 do
 pub room-known : (n : ℕ) (k : Bool) → k ≡ true → true ≡ k || not (leb 32 n)

@@ -13,6 +13,8 @@ use Rattle.rules.specs.Outcome.{done}
 use Rattle.rules.specs.Calls.{making, making_refusal}
 use Rattle.rules.specs.Good.{Good}
 use Rattle.rules.proofs.Kept.{making-good}
+use Rattle.types.specs.declared.refusal.Refusal.{Refusal}
+use Rattle.types.specs.Refusals.{refusal_number}
 use Rattle.entry.specs.declared.Entry.{Entry}
 use Rattle.entry.specs.Entry.{Fits}
 use Rattle.store.specs.Roster as roster
@@ -21,7 +23,7 @@ use Rattle.store.specs.Departures as departures
 use Rattle.ledger.specs.declared.Ledger.{Ledger}
 use Rattle.ledger.specs.Contents.{contents, Held}
 use Rattle.ledger.specs.Meets.{Meets, says, says_no}
-use Rattle.ledger.proofs.Meeting.{passes, silent}
+use Rattle.ledger.proofs.Meeting.{numbered, passes, silent}
 use Rattle.calls.specs.Fresh.{Fresh}
 
 pub every_replicate : (n : ℕ) (e : Entry) → Fits e → Every Fits (replicate n e)
@@ -55,11 +57,11 @@ module _ (local v c s : ℕ) where
       passes (making_refusal local v c s) (empty 1 1 1 1) (done [] (empty local v c s)) [] [] (says 0 l) e
       (silent l (empty local v c s) (says 0 l) (record { held = fresh_held local v c s l f (rw e at (making-good local v c s)); holds = f.contents }) refl)
 
-  pub not_made : (n : ℕ) (l : Ledger) → Fresh 1 1 1 1 l → making_refusal local v c s ≡ suc n → Meets (making local v c s) [] [] (says_no (suc n) l)
+  pub not_made : (r : Refusal) (l : Ledger) → Fresh 1 1 1 1 l → making_refusal local v c s ≡ refusal_number r → Meets (making local v c s) [] [] (says_no r l)
   unfolding making
-  not_made n l f e =
-      rw e
-      (record { refused = refl; answers = refl; ledger = f.contents; wrote = refl; held = fresh_held 1 1 1 1 l f (making-good 1 1 1 1) })
+  not_made r l f e =
+      rw (e ∙ (numbered r).1)
+      (record { refused = (numbered r).1; answers = refl; ledger = f.contents; wrote = refl; held = fresh_held 1 1 1 1 l f (making-good 1 1 1 1) })
 
   -- the two lines of the table, and neither
   pub no_shard : is_shard local ≡ false → making_refusal local v c s ≡ 1

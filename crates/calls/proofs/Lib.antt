@@ -1,5 +1,4 @@
 pub mod Single
-pub mod Looked
 pub mod Empties
 pub mod Departing
 pub mod Named

@@ -1,5 +1,6 @@
 -- The calls that look up one transaction: what each does where it is owed and where it is not, from what its parts did.
 -- Assumes nothing.
+use Rattle.std.specs.Prelude.{Some, None}
 use Prim.Native.Nat.{ℕ, ◌≤◌, ◌<◌}
 use mathlib.Core.Path.{◌≡◌, refl, ap, sym, ◌∙◌, subst}
 use mathlib.Core.Bool.{Bool, true, false, ◌&&◌}
@@ -7,11 +8,10 @@ use mathlib.Core.List.{[], ◌∷◌}
 use native.Mathlib.Omega.{arith}
 use lib.ListN.{length, get_or}
 use borrow.Author.Tests.{lt-ltb, le-ltb, le-leb, lt-leb}
-use Rattle.lists.specs.Lists.{keep, change}
+use Rattle.lists.specs.Lists.{keep, change, Ascending}
 use Rattle.lists.specs.Arrays.{place}
-use Rattle.lists.specs.declared.Found.TheVariants.{At, Nothing}
 use Rattle.lists.proofs.Tests.{by_cond}
-use Rattle.lists.proofs.Order.{include-known}
+use Rattle.lists.proofs.Order.{include-known, length-include}
 use Rattle.lists.proofs.Change.{change_same}
 use Rattle.rules.specs.Numbers.{is_word, is_shard}
 use Rattle.rules.specs.Plain.{Absence, transaction_of, absence_key, with_entries, entry_of, is_leg, is_settling, issues}
@@ -20,8 +20,9 @@ use Rattle.rules.specs.Outcome.{done, yes_no}
 use Rattle.rules.specs.Calls.{forget, certify, absence, settled, returned, after_forget, after_fated, certify_refusal, after_certify, is_new, absence_refusal, after_absence, after_mark}
 use Rattle.rules.specs.Good.{Good}
 use Rattle.rules.proofs.Kept.{step-good}
+use Rattle.types.specs.declared.refusal.Refusal.TheVariants.{NoShard, Malformed, AbsencesFull}
 use Rattle.entry.specs.declared.Entry.{Entry}
-use Rattle.entry.specs.Entry.{plain_entry, Means}
+use Rattle.entry.specs.Entry.{plain_entry, absences_of, Fits, Means, RoomForAbsence}
 use Rattle.entry.proofs.Absent.{length-absences}
 use Rattle.store.specs.declared.roster.Roster.{Roster}
 use Rattle.store.specs.declared.issuers.Issuers.{Issuers}
@@ -37,13 +38,13 @@ use Rattle.ledger.proofs.Meeting.{refuses, passes, answers, silent, good-after, 
 
 -- Forget.
 module _ (l : Ledger) (h : Held l) (t : ℕ) where
-  pub forget_unknown : place (is t) 0 (keys_of l.roster) ≡ Nothing → Meets (after_forget t (contents l)) [] [] (says 0 l)
+  pub forget_unknown : place (is t) 0 (keys_of l.roster) ≡ None → Meets (after_forget t (contents l)) [] [] (says 0 l)
   unfolding after_forget
   forget_unknown e =
       let w = not_found l h t e in
       rw (w.known, w.gone) (answers 0 l (contents l) (says 0 l) (stays l h (contents l) refl) refl)
 
-  pub forget-owed : (k : ℕ) → place (is t) 0 (keys_of l.roster) ≡ At k → (r : Roster) (x : Issuers) → Removed l.roster k r →
+  pub forget-owed : (k : ℕ) → place (is t) 0 (keys_of l.roster) ≡ Some k → (r : Roster) (x : Issuers) → Removed l.roster k r →
       issuers.Holds (keep (is_not t) (pairs_in l.issuers)) x → Meets (after_forget t (contents l)) [] [] (says 1 (with_parts l l.rebuilt r l.entries x l.departures))
   unfolding after_forget
   forget-owed k e r x c i =
@@ -52,16 +53,16 @@ module _ (l : Ledger) (h : Held l) (t : ℕ) where
       rw a.known (answers 1 (with_parts l l.rebuilt r l.entries x l.departures) _ _ b refl)
 
   -- Fated.
-  pub fated_unknown : place (is t) 0 (keys_of l.roster) ≡ Nothing → Meets (after_fated t (contents l)) [] [] (says 0 l)
+  pub fated_unknown : place (is t) 0 (keys_of l.roster) ≡ None → Meets (after_fated t (contents l)) [] [] (says 0 l)
   unfolding after_fated
   fated_unknown e = rw (not_found l h t e).got (answers 0 l (contents l) (says 0 l) (stays l h (contents l) refl) refl)
 
-  pub fated_other : (k : ℕ) (d : Entry) → place (is t) 0 (keys_of l.roster) ≡ At k →
+  pub fated_other : (k : ℕ) (d : Entry) → place (is t) 0 (keys_of l.roster) ≡ Some k →
       is_leg (plain_entry (lying_at l k d)).part ≡ false → Meets (after_fated t (contents l)) [] [] (says 0 l)
   unfolding after_fated
   fated_other k d e q = rw ((found_at l h t k e).got d, q) (answers 0 l (contents l) (says 0 l) (stays l h (contents l) refl) refl)
 
-  pub fated-leg : (k : ℕ) (d : Entry) → place (is t) 0 (keys_of l.roster) ≡ At k →
+  pub fated-leg : (k : ℕ) (d : Entry) → place (is t) 0 (keys_of l.roster) ≡ Some k →
       is_leg (plain_entry (lying_at l k d)).part ≡ true → (r : Roster) (x : Issuers) → Removed l.roster k r →
       issuers.Holds (keep (is_not t) (pairs_in l.issuers)) x → Meets (after_fated t (contents l)) [] [] (says 2 (with_parts l l.rebuilt r l.entries x l.departures))
   unfolding after_fated after_forget
@@ -72,14 +73,14 @@ module _ (l : Ledger) (h : Held l) (t : ℕ) where
 
   -- Certify.
   module _ (code : ℕ) where
-    pub certify_code : 2 < code → Meets (after_certify t code (contents l)) [] [] (says_no 5 l)
+    pub certify_code : 2 < code → Meets (after_certify t code (contents l)) [] [] (says_no Malformed l)
     unfolding after_certify
-    certify_code q = refuses 4 l [] (certify_refusal code) _ (says_no 5 l) h (rw (lt-ltb 2 code q)) refl
+    certify_code q = refuses Malformed l [] (certify_refusal code) _ h (rw (lt-ltb 2 code q))
 
     coded : code ≤ 2 → certify_refusal code ≡ 0
     coded q = rw (le-ltb 2 code q)
 
-    pub certify_unknown : code ≤ 2 → place (is t) 0 (keys_of l.roster) ≡ Nothing → Meets (after_certify t code (contents l)) [] [] (says 0 l)
+    pub certify_unknown : code ≤ 2 → place (is t) 0 (keys_of l.roster) ≡ None → Meets (after_certify t code (contents l)) [] [] (says 0 l)
     unfolding after_certify
     certify_unknown q e =
         passes (certify_refusal code) (contents l) _ [] [] (says 0 l) (coded q)
@@ -97,12 +98,12 @@ module _ (l : Ledger) (h : Held l) (t : ℕ) where
 
   -- Settled and returned.
   module _ (r : ℕ) (is_return : Bool) where
-    pub mark_unknown : place (is t) 0 (keys_of l.roster) ≡ Nothing → Meets (after_mark r t is_return (contents l)) [] [] (says 0 l)
+    pub mark_unknown : place (is t) 0 (keys_of l.roster) ≡ None → Meets (after_mark r t is_return (contents l)) [] [] (says 0 l)
     unfolding after_mark
     mark_unknown e =
         rw ((not_found l h t e).changed (marked (contents l).local r is_return)) (silent l (contents l) (says 0 l) (stays l h (contents l) refl) refl)
 
-    pub mark_owed : (k : ℕ) (d x : Entry) → place (is t) 0 (keys_of l.roster) ≡ At k →
+    pub mark_owed : (k : ℕ) (d x : Entry) → place (is t) 0 (keys_of l.roster) ≡ Some k →
         Means (marked l.local.0 r is_return (plain_entry (lying_at l k d))) x →
         Meets (after_mark r t is_return (contents l)) [] [] (says 0 (storing l (slot_at l k) x))
     unfolding after_mark contents
@@ -119,17 +120,17 @@ module _ (l : Ledger) (h : Held l) (t : ℕ) where
 
   -- Absence.
   module _ (a : Absence) where
-    pub absence-shard : is_shard a.shard ≡ false → Meets (after_absence t a (contents l)) [] [] (says_no 4 l)
+    pub absence-shard : is_shard a.shard ≡ false → Meets (after_absence t a (contents l)) [] [] (says_no NoShard l)
     unfolding after_absence
-    absence-shard q = refuses 3 l [] (absence_refusal t a (contents l)) _ (says_no 4 l) h (rw q) refl
+    absence-shard q = refuses NoShard l [] (absence_refusal t a (contents l)) _ h (rw q)
 
-    pub absence_unknown : is_shard a.shard ≡ true → place (is t) 0 (keys_of l.roster) ≡ Nothing → Meets (after_absence t a (contents l)) [] [] (says 0 l)
+    pub absence_unknown : is_shard a.shard ≡ true → place (is t) 0 (keys_of l.roster) ≡ None → Meets (after_absence t a (contents l)) [] [] (says 0 l)
     unfolding after_absence
     absence_unknown q e =
         let w = not_found l h t e in
         rw (q, w.got, w.changed (read_absent a)) (answers 0 l (contents l) (says 0 l) (stays l h (contents l) refl) refl)
 
-    module _ (k : ℕ) (d : Entry) (q : is_shard a.shard ≡ true) (e : place (is t) 0 (keys_of l.roster) ≡ At k) where
+    module _ (k : ℕ) (d : Entry) (q : is_shard a.shard ≡ true) (e : place (is t) 0 (keys_of l.roster) ≡ Some k) where
       abbrev old : Entry
       old = lying_at l k d
 
@@ -146,10 +147,10 @@ module _ (l : Ledger) (h : Held l) (t : ℕ) where
       unfolding plain_entry
       size = length-absences old ((found_at l h t k e).fits d)
 
-      pub absence_full : is_read a (plain_entry old) ≡ false → 8 ≤ old.absences_len → Meets (after_absence t a (contents l)) [] [] (says_no 7 l)
+      pub absence_full : is_read a (plain_entry old) ≡ false → 8 ≤ old.absences_len → Meets (after_absence t a (contents l)) [] [] (says_no AbsencesFull l)
       unfolding after_absence
       absence_full i f =
-          refuses 6 l [] (absence_refusal t a (contents l)) _ (says_no 7 l) h (rw (q, (found_at l h t k e).got d, i, le-leb 8 (length (plain_entry old).absences) (omega (arith, size)))) refl
+          refuses AbsencesFull l [] (absence_refusal t a (contents l)) _ h (rw (q, (found_at l h t k e).got d, i, le-leb 8 (length (plain_entry old).absences) (omega (arith, size))))
 
       pub absence_new : is_read a (plain_entry old) ≡ false → old.absences_len < 8 → is_word a.key ≡ true → (x : Entry) → Means (read_absent a (plain_entry old)) x →
           Meets (after_absence t a (contents l)) [] [] (says 1 (storing l (slot_at l k) x))
@@ -160,3 +161,8 @@ module _ (l : Ledger) (h : Held l) (t : ℕ) where
           let g = good-after (absence_refusal t a (contents l)) (contents l) o none (step-good (absence t a.shard a.key) w (contents l) h.good) in
           passes (absence_refusal t a (contents l)) (contents l) o [] [] _ none
           (rw ((found_at l h t k e).got d, i) (answers 1 _ _ _ (changed l h t k x d (read_absent a) e m.fits m.plain (λ y. refl) g) refl))
+
+-- there is room for one more absence
+pub room_for : (e : Entry) (a : Absence) → Fits e → Ascending absence_key (absences_of e) → e.absences_len < 8 → RoomForAbsence a e
+unfolding plain_entry
+room_for e a f r b = record { fits = f; rising = r; room = omega (arith, length-absences e f, length-include absence_key a (absences_of e)) }

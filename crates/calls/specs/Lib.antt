@@ -2,4 +2,3 @@ pub mod Fresh
 pub mod Terminals
 pub mod Naming
 pub mod Refusals
-pub mod Looking

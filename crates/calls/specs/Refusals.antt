@@ -1,7 +1,5 @@
--- The refusal table of an admission: the lines that its words decide, then the room for it.
-use Rattle.std.specs.Prelude.{ℕ, not, List, leb}
-use Rattle.lists.specs.declared.Found.{Found}
-use Rattle.lists.specs.declared.Found.TheVariants.{At, Nothing}
+-- The refusal table of an admission: the lines that its words decide.
+use Rattle.std.specs.Prelude.{ℕ, not, List}
 use Rattle.rules.specs.Words.{admission_formed, admission_timed, admission_placed}
 use Rattle.rules.specs.Outcome.{◌gives◌then◌}
 
@@ -10,14 +8,3 @@ words_refusal ws =
     not (admission_formed ws) gives 5 then
     not (admission_timed ws) gives 3 then
     not (admission_placed ws) gives 4 then 0
-
--- a transaction that was found needs no room
-abbrev pub room_refusal : Found → ℕ → ℕ
-room_refusal (At k) n = 0
-room_refusal Nothing n = leb 48 n gives 6 then 0
-
-abbrev pub table_refusal : List ℕ → Found → ℕ → ℕ
-table_refusal ws found n =
-    not (admission_formed ws) gives 5 then
-    not (admission_timed ws) gives 3 then
-    not (admission_placed ws) gives 4 then room_refusal found n

@@ -4,7 +4,6 @@
 
 pub mod admission;
 pub mod certificate;
-mod looking;
 pub mod making;
 pub mod release;
 pub mod settlement;

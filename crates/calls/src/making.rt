@@ -11,6 +11,7 @@ use ledger::{Done, Ledger};
 use store::departures::Departures;
 use store::issuers::Issuers;
 use store::roster::Roster;
+use types::refusal::Refusal;
 use types::{Shard, is_shard, is_span};
 
 // An empty ledger.
@@ -18,33 +19,23 @@ fn empty(local: Shard, validity: u64, core_span: u64, leg_span: u64) -> Ledger
     ensures { Fresh local.0 validity core_span leg_span result }
 {
     let e = Entry::blank();
-    let entries = [e; 48];
-    let roster = Roster::new();
-    let issuers = Issuers::new();
-    let departures = Departures::new();
     Ledger {
         local,
         validity,
         core_span,
         leg_span,
         rebuilt: 0,
-        roster,
-        entries,
-        issuers,
-        departures,
+        roster: Roster::new(),
+        entries: [e; 48],
+        issuers: Issuers::new(),
+        departures: Departures::new(),
     }
 }
 
 fn are_spans(validity: u64, core_span: u64, leg_span: u64) -> bool
     ensures { result ≡ all_of (is_span validity ∷ is_span core_span ∷ is_span leg_span ∷ []) }
 {
-    if !is_span(validity) {
-        return false;
-    }
-    if !is_span(core_span) {
-        return false;
-    }
-    is_span(leg_span)
+    is_span(validity) && is_span(core_span) && is_span(leg_span)
 }
 
 // A ledger for a shard, with its three spans. A refused making hands back the empty ledger of shard 1 with spans of 1.
@@ -52,25 +43,19 @@ pub fn new(local: Shard, validity: u64, core_span: u64, leg_span: u64) -> Done
     ensures { Meets (making local.0 validity core_span leg_span) [] [] result }
 {
     if !is_shard(local.0) {
-        let ledger = empty(Shard(1), 1, 1, 1);
         return Done {
-            refused: 1,
-            answers: [0, 0, 0],
-            ledger,
+            said: Err(Refusal::NoLocal),
+            ledger: empty(Shard(1), 1, 1, 1),
         };
     }
     if !are_spans(validity, core_span, leg_span) {
-        let ledger = empty(Shard(1), 1, 1, 1);
         return Done {
-            refused: 2,
-            answers: [0, 0, 0],
-            ledger,
+            said: Err(Refusal::NoSpan),
+            ledger: empty(Shard(1), 1, 1, 1),
         };
     }
-    let ledger = empty(local, validity, core_span, leg_span);
     Done {
-        refused: 0,
-        answers: [0, 0, 0],
-        ledger,
+        said: Ok([0; 3]),
+        ledger: empty(local, validity, core_span, leg_span),
     }
 }

@@ -6,7 +6,6 @@ ghost use Rattle.ledger.specs.Meets.{Meets};
 ghost use Rattle.types.specs.Transactions.{number_of};
 
 use ledger::{Done, Ledger};
-use lists::Found;
 use types::Transaction;
 
 // Lets a transaction go with no outcome, and answers whether it was owed.
@@ -14,17 +13,16 @@ pub fn forget(mut ledger: Ledger, tx: Transaction) -> Done
     requires { Held ledger }
     ensures { Meets (after_forget (number_of tx) (contents ledger)) [] [] result }
 {
-    let mut answer: u64 = 0;
-    let roster = ledger.roster;
-    if let Found::At(k) = roster.find(tx) {
-        let issuers = ledger.issuers;
-        ledger.roster = roster.remove_at(k);
-        ledger.issuers = issuers.without(tx);
-        answer = 1;
-    }
+    let Some(k) = ledger.roster.find(tx) else {
+        return Done {
+            said: Ok([0; 3]),
+            ledger,
+        };
+    };
+    ledger.roster = ledger.roster.remove_at(k);
+    ledger.issuers = ledger.issuers.without(tx);
     Done {
-        refused: 0,
-        answers: [answer, 0, 0],
+        said: Ok([1, 0, 0]),
         ledger,
     }
 }
@@ -34,22 +32,23 @@ pub fn fated(mut ledger: Ledger, tx: Transaction) -> Done
     requires { Held ledger }
     ensures { Meets (after_fated (number_of tx) (contents ledger)) [] [] result }
 {
-    let mut answer: u64 = 0;
-    let roster = ledger.roster;
-    if let Found::At(k) = roster.find(tx) {
-        let slot = roster.slots[k];
-        let e = ledger.entries[slot];
-        let part = e.part;
-        if part.is_leg() {
-            let issuers = ledger.issuers;
-            ledger.roster = roster.remove_at(k);
-            ledger.issuers = issuers.without(tx);
-            answer = 2;
-        }
+    let Some(k) = ledger.roster.find(tx) else {
+        return Done {
+            said: Ok([0; 3]),
+            ledger,
+        };
+    };
+    let slot = ledger.roster.slots[k];
+    if !ledger.entries[slot].part.is_leg() {
+        return Done {
+            said: Ok([0; 3]),
+            ledger,
+        };
     }
+    ledger.roster = ledger.roster.remove_at(k);
+    ledger.issuers = ledger.issuers.without(tx);
     Done {
-        refused: 0,
-        answers: [answer, 0, 0],
+        said: Ok([2, 0, 0]),
         ledger,
     }
 }

@@ -1,63 +1,41 @@
 // Settled and returned: a record of a leg or a remainder marked.
-ghost use Rattle.std.specs.Prelude.{◌≡◌, true, false, [], ℕ};
-ghost use Rattle.lists.specs.declared.Found.TheVariants.{At};
+ghost use Rattle.std.specs.Prelude.{true, false, []};
 ghost use Rattle.rules.specs.Calls.{after_mark};
-ghost use Rattle.rules.specs.Good.{GoodEntry};
-ghost use Rattle.entry.specs.Entry.{plain_entry, Fits};
 ghost use Rattle.ledger.specs.Contents.{Held, contents};
 ghost use Rattle.ledger.specs.Meets.{Meets};
-ghost use Rattle.calls.specs.Looking.{TakesMark};
 ghost use Rattle.types.specs.Transactions.{number_of};
 
-use crate::looking::slot_or_first;
-use entry::Entry;
 use ledger::{Done, Ledger};
-use lists::Found;
-use types::{RecordKey, Shard, Transaction};
+use types::{RecordKey, Transaction};
 
-// The entry that was looked up with its record marked; only an issued record of a leg or remainder takes a mark. One that was not found
-// stays as it is.
-fn marked(found: Found, e: Entry, local: Shard, r: RecordKey, is_return: bool) -> Entry
-    requires fits { Fits e }
-    requires by_index { (k : ℕ) → found ≡ At k → GoodEntry local.0 (plain_entry e) }
-    ensures { TakesMark r.0 is_return local.0 found e result }
+// The record marked; only an issued record of a leg or a remainder takes a mark. Inlined, since a call would copy the ledger twice more.
+#[inline(always)]
+fn mark(mut ledger: Ledger, r: RecordKey, tx: Transaction, is_return: bool) -> Done
+    requires { Held ledger }
+    ensures { Meets (after_mark r.0 (number_of tx) is_return (contents ledger)) [] [] result }
 {
-    let Found::At(_) = found else {
-        return e;
-    };
-    e.with_mark(local, r, is_return)
+    if let Some(slot) = ledger.roster.slot_of(tx) {
+        let e = ledger.entries[slot];
+        ledger.entries[slot] = e.with_mark(ledger.local, r, is_return);
+    }
+    Done {
+        said: Ok([0; 3]),
+        ledger,
+    }
 }
 
 // The record was taken by its consumer.
-pub fn settled(mut ledger: Ledger, r: RecordKey, tx: Transaction) -> Done
+pub fn settled(ledger: Ledger, r: RecordKey, tx: Transaction) -> Done
     requires { Held ledger }
     ensures { Meets (after_mark r.0 (number_of tx) false (contents ledger)) [] [] result }
 {
-    let roster = ledger.roster;
-    let found = roster.find(tx);
-    let slot = slot_or_first(roster, found);
-    let e = ledger.entries[slot];
-    ledger.entries[slot] = marked(found, e, ledger.local, r, false);
-    Done {
-        refused: 0,
-        answers: [0, 0, 0],
-        ledger,
-    }
+    mark(ledger, r, tx, false)
 }
 
 // The record was taken back: the entry will close as aborted.
-pub fn returned(mut ledger: Ledger, r: RecordKey, tx: Transaction) -> Done
+pub fn returned(ledger: Ledger, r: RecordKey, tx: Transaction) -> Done
     requires { Held ledger }
     ensures { Meets (after_mark r.0 (number_of tx) true (contents ledger)) [] [] result }
 {
-    let roster = ledger.roster;
-    let found = roster.find(tx);
-    let slot = slot_or_first(roster, found);
-    let e = ledger.entries[slot];
-    ledger.entries[slot] = marked(found, e, ledger.local, r, true);
-    Done {
-        refused: 0,
-        answers: [0, 0, 0],
-        ledger,
-    }
+    mark(ledger, r, tx, true)
 }

@@ -6,40 +6,44 @@ ghost use Rattle.rules.specs.Calls.{after_terminal, after_stamp, stamp_refusal};
 ghost use Rattle.store.specs.Departures.{Sound, Rising, Holds, on_file, room_for};
 ghost use Rattle.ledger.specs.Contents.{Held, contents};
 ghost use Rattle.ledger.specs.Meets.{Meets};
+ghost use Rattle.types.specs.Refusals.{refused_in};
 ghost use Rattle.calls.specs.Terminals.{is_until, words_refusal, filed_as};
 
 use ledger::{Done, Ledger};
-use lists::Found;
 use store::departures::Departures;
+use types::refusal::Refusal;
 use types::{Shard, Time, is_shard, is_time};
 
 // Whether until is a time, where it is read at all.
 fn is_until(stamped: u64, until: Time) -> bool
     ensures { result ≡ is_until stamped until.0 }
 {
-    if stamped == 0 {
-        return true;
-    }
-    is_time(until.0)
+    stamped == 0 || is_time(until.0)
 }
 
-// The number by which the words of a terminal are turned away, 0 for none.
-fn refusal(shard: Shard, cut: Time, stamped: u64, until: Time) -> u64
-    ensures { result ≡ words_refusal shard.0 cut.0 stamped until.0 }
+// The words of a terminal, by the table.
+#[tactic(auto, unfolding(crate::specs::Terminals::words_refusal))]
+fn check_terminal(
+    shard: Shard,
+    cut: Time,
+    stamped: u64,
+    until: Time,
+) -> Result<(), Refusal>
+    ensures { refused_in result ≡ words_refusal shard.0 cut.0 stamped until.0 }
 {
     if 1 < stamped {
-        return 5;
+        return Err(Refusal::Malformed);
     }
     if !is_time(cut.0) {
-        return 3;
+        return Err(Refusal::NoTime);
     }
     if !is_until(stamped, until) {
-        return 3;
+        return Err(Refusal::NoTime);
     }
     if !is_shard(shard.0) {
-        return 4;
+        return Err(Refusal::NoShard);
     }
-    0
+    Ok(())
 }
 
 // Whether the shard is on file already or there is room for it.
@@ -47,10 +51,7 @@ fn has_room(departures: Departures, shard: Shard) -> bool
     requires { Sound departures }
     ensures { result ≡ has shard_of shard.0 (on_file departures) || not (leb 32 (length (on_file departures))) }
 {
-    let Found::Nothing = departures.find(shard) else {
-        return true;
-    };
-    departures.len < 32
+    departures.find(shard).is_some() || departures.len < 32
 }
 
 // The departures with the shard's on file, stamped or not yet.
@@ -77,31 +78,36 @@ pub fn record_terminal(
     requires { Held ledger }
     ensures { Meets (after_terminal shard.0 cut.0 stamped until.0 (contents ledger)) [] [] result }
 {
-    let mut refused = refusal(shard, cut, stamped, until);
-    if refused == 0 {
-        let departures = ledger.departures;
-        if has_room(departures, shard) {
-            let known = filed(departures, shard, cut, stamped, until);
-            ledger.departures = known;
-        } else {
-            refused = 8;
-        }
+    if let Err(refusal) = check_terminal(shard, cut, stamped, until) {
+        return Done {
+            said: Err(refusal),
+            ledger,
+        };
     }
+    if !has_room(ledger.departures, shard) {
+        return Done {
+            said: Err(Refusal::DeparturesFull),
+            ledger,
+        };
+    }
+    ledger.departures = filed(ledger.departures, shard, cut, stamped, until);
     Done {
-        refused,
-        answers: [0, 0, 0],
+        said: Ok([0; 3]),
         ledger,
     }
 }
 
-// The number by which the words of a stamp are turned away, 0 for none.
-fn stamp_refusal(shard: Shard, until: Time) -> u64
-    ensures { result ≡ stamp_refusal shard.0 until.0 }
+// The words of a stamp, by the table.
+fn check_stamp(shard: Shard, until: Time) -> Result<(), Refusal>
+    ensures { refused_in result ≡ stamp_refusal shard.0 until.0 }
 {
     if !is_time(until.0) {
-        return 3;
+        return Err(Refusal::NoTime);
     }
-    if is_shard(shard.0) { 0 } else { 4 }
+    if !is_shard(shard.0) {
+        return Err(Refusal::NoShard);
+    }
+    Ok(())
 }
 
 // A departure on file stamped; on a shard that is not on file a stamp is nothing.
@@ -109,14 +115,15 @@ pub fn stamp_terminal(mut ledger: Ledger, shard: Shard, until: Time) -> Done
     requires { Held ledger }
     ensures { Meets (after_stamp shard.0 until.0 (contents ledger)) [] [] result }
 {
-    let refused = stamp_refusal(shard, until);
-    if refused == 0 {
-        let departures = ledger.departures;
-        ledger.departures = departures.stamped(shard, until);
+    if let Err(refusal) = check_stamp(shard, until) {
+        return Done {
+            said: Err(refusal),
+            ledger,
+        };
     }
+    ledger.departures = ledger.departures.stamped(shard, until);
     Done {
-        refused,
-        answers: [0, 0, 0],
+        said: Ok([0; 3]),
         ledger,
     }
 }

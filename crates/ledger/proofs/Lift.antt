@@ -1,6 +1,7 @@
 -- From what the arrays hold to what the ledger means: one law gives a ledger with other parts back as held, and by it an entry is
 -- changed, taken in or let go, the entries that a test keeps stay, and other departures or another count come in.
 -- Assumes nothing.
+use Rattle.std.specs.Prelude.{Some, None}
 use Prim.Native.Nat.{ℕ, ◌<◌, ◌≤◌}
 use mathlib.Core.Path.{◌≡◌, refl, sym, ap, ap₂, ◌∙◌}
 use mathlib.Core.Bool.{Bool, false}
@@ -10,7 +11,6 @@ use lib.ListN.{length, get_or, set, length-map, length-set}
 use lib.Seq.{get_or-take, get_or-set_same}
 use Rattle.lists.specs.Lists.{keep, keep_by, Every, at, has, without, change, include, include_all, self}
 use Rattle.lists.specs.Arrays.{insert_at, remove_at, place, rank}
-use Rattle.lists.specs.declared.Found.TheVariants.{At, Nothing}
 use Rattle.lists.proofs.Loops.{located, include-rank}
 use Rattle.lists.proofs.Distinct.{every_set, every_at, distinct-take, take_lacks, map-insert_at, map-remove_at, map-keep_by, keep_by_test, read_elsewhere, read_stored}
 use Rattle.lists.proofs.Maps.{map-set, map-change_if}
@@ -99,7 +99,7 @@ module _ (l : Ledger) (h : Held l) where
   counted n few = became l n (entries_of l) (on_file l.departures) l.roster l.entries l.issuers l.departures same_rows same_file (with-rebuilt (contents l) n h.good few)
 
   -- One entry changed where it lies; its terms stay.
-  pub changed : (t k : ℕ) (x d : Entry) (f : plain.Entry → plain.Entry) → place (is t) 0 (keys_of l.roster) ≡ At k →
+  pub changed : (t k : ℕ) (x d : Entry) (f : plain.Entry → plain.Entry) → place (is t) 0 (keys_of l.roster) ≡ Some k →
       Fits x → plain_entry x ≡ f (plain_entry (lying_at l k d)) → ((e : plain.Entry) → (f e).terms ≡ e.terms) →
       Good (with_entries (change transaction_of t f (contents l).entries) (contents l)) →
       Became (with_entries (change transaction_of t f (contents l).entries) (contents l)) (storing l (slot_at l k) x)
@@ -132,7 +132,7 @@ module _ (l : Ledger) (h : Held l) where
       g
 
   -- An entry taken in: its transaction is not owed, and ranks at k.
-  pub taken_in : (k : ℕ) (x : Entry) (r : Roster) (ix : Issuers) → place (is (number_of x.tx)) 0 (keys_of l.roster) ≡ Nothing →
+  pub taken_in : (k : ℕ) (x : Entry) (r : Roster) (ix : Issuers) → place (is (number_of x.tx)) 0 (keys_of l.roster) ≡ None →
       k ≡ rank (below (number_of x.tx)) (keys_of l.roster) → l.roster.len < 48 → Fits x → IsOfWord (plain_entry x) → Inserted l.roster k (number_of x.tx) r →
       issuers.Holds (include_all pair_key (pairs_of l.local.0 (plain_entry x)) (index (contents l))) ix →
       Good (with_entries (include transaction_of (plain_entry x) (contents l).entries) (contents l)) →
@@ -167,7 +167,7 @@ module _ (l : Ledger) (h : Held l) where
       g
 
   -- An entry let go: the pairs of its transaction leave the index.
-  pub let_go : (t k : ℕ) (r : Roster) (ix : Issuers) → place (is t) 0 (keys_of l.roster) ≡ At k →
+  pub let_go : (t k : ℕ) (r : Roster) (ix : Issuers) → place (is t) 0 (keys_of l.roster) ≡ Some k →
       Removed l.roster k r → issuers.Holds (keep (is_not t) (pairs_in l.issuers)) ix →
       Good (with_entries (without transaction_of t (contents l).entries) (contents l)) →
       Became (with_entries (without transaction_of t (contents l).entries) (contents l)) (with_parts l l.rebuilt r l.entries ix l.departures)

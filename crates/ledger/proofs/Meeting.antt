@@ -1,27 +1,43 @@
 -- How a call meets its contract: one law for every refusal, one for a call that goes through and is lent no list.
 -- Assumes nothing.
 use Prim.Native.Nat.{ℕ, suc}
-use mathlib.Core.Path.{◌≡◌, refl}
+use mathlib.Core.Path.{◌≡◌, refl, ◌∙◌}
 use mathlib.Core.List.{List, [], ◌∷◌}
 use Rattle.rules.specs.Plain.{Plain}
 use Rattle.rules.specs.Good.{Good}
 use Rattle.rules.specs.Outcome.{Outcome, done, unless}
+use Rattle.std.specs.Prelude.{Ok}
+use Rattle.types.specs.declared.refusal.Refusal.{Refusal}
+use Rattle.types.specs.declared.refusal.Refusal.TheVariants.{NoLocal, NoSpan, NoTime, NoShard, Malformed, EntriesFull, AbsencesFull, DeparturesFull, ListShort}
+use Rattle.types.specs.Refusals.{refusal_number}
 use Rattle.ledger.specs.declared.Ledger.{Ledger}
 use Rattle.ledger.specs.declared.Done.{Done}
 use Rattle.ledger.specs.Contents.{contents, Held}
-use Rattle.ledger.specs.Meets.{Meets, three_of, ends, says, says_no}
+use Rattle.ledger.specs.Meets.{Meets, three_of, saying, says, says_no}
 use Rattle.ledger.proofs.Lift.{Became}
 
--- the table gives a number: it is said, and nothing else is done
-pub refuses : (n : ℕ) (l : Ledger) (lent : List ℕ) (m : ℕ) (o : Outcome) (r : Done) → Held l → m ≡ suc n → r ≡ says_no (suc n) l → Meets (unless m (contents l) o) lent lent r
-refuses n l lent m o r h e q = rw (e, q) (record { refused = refl; answers = refl; ledger = refl; wrote = refl; held = h })
+-- a refusal's number is not 0
+pub numbered : (r : Refusal) → (n : ℕ) × (refusal_number r ≡ suc n)
+numbered NoLocal = (0, refl)
+numbered NoSpan = (1, refl)
+numbered NoTime = (2, refl)
+numbered NoShard = (3, refl)
+numbered Malformed = (4, refl)
+numbered EntriesFull = (5, refl)
+numbered AbsencesFull = (6, refl)
+numbered DeparturesFull = (7, refl)
+numbered ListShort = (8, refl)
+
+-- the table gives a refusal: it is said, and nothing else is done
+pub refuses : (r : Refusal) (l : Ledger) (lent : List ℕ) (m : ℕ) (o : Outcome) → Held l → m ≡ refusal_number r → Meets (unless m (contents l) o) lent lent (says_no r l)
+refuses r l lent m o h e = rw (e ∙ (numbered r).1) (record { refused = (numbered r).1; answers = refl; ledger = refl; wrote = refl; held = h })
 
 -- the table gives none
 pub passes : (m : ℕ) (p : Plain) (o : Outcome) (lent after : List ℕ) (r : Done) → m ≡ 0 → Meets o lent after r → Meets (unless m p o) lent after r
 passes m p o lent after r e g = rw e g
 
 -- the ledger became what the call says, with its answers
-ended : (ns : List ℕ) (l : Ledger) (p : Plain) (r : Done) → Became p l → r ≡ record { refused = 0; answers = three_of ns; ledger = l } → Meets (done ns p) [] [] r
+ended : (ns : List ℕ) (l : Ledger) (p : Plain) (r : Done) → Became p l → r ≡ saying (Ok (three_of ns)) l → Meets (done ns p) [] [] r
 ended ns l p r b q = rw q (record { refused = refl; answers = refl; ledger = b.holds; wrote = refl; held = b.held })
 
 -- which are a number or nothing
@@ -30,10 +46,6 @@ answers n = ended (n ∷ [])
 
 pub silent : (l : Ledger) (p : Plain) (r : Done) → Became p l → r ≡ says 0 l → Meets (done [] p) [] [] r
 silent = ended []
-
--- a refusal's number that is 0 is none
-pub unrefused : (n m : ℕ) (l : Ledger) (o : Outcome) (a b : List ℕ) → n ≡ 0 → Meets o a b (says m l) → Meets o a b (ends n m l)
-unrefused n m l o a b e w = rw e w
 
 -- the ledger as it is
 pub stays : (l : Ledger) → Held l → (p : Plain) → contents l ≡ p → Became p l

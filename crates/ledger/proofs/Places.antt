@@ -1,5 +1,6 @@
 -- The entry at a place of the roster, with all that is known of it, and where a transaction stands.
 -- Assumes nothing.
+use Rattle.std.specs.Prelude.{Some, None}
 use Prim.Native.Nat.{ℕ, ◌+◌, ◌≤◌, ◌<◌}
 use mathlib.Core.Path.{◌≡◌, sym, ap, ◌∙◌}
 use mathlib.Core.Bool.{true}
@@ -11,7 +12,6 @@ use lib.ListN.{length, drop, get_or, length-map, get_or-map}
 use lib.Seq.{length-take-le, get_or-take}
 use Rattle.lists.specs.Lists.{Ascending, at, has, get}
 use Rattle.lists.specs.Arrays.{place, rank}
-use Rattle.lists.specs.declared.Found.TheVariants.{At, Nothing}
 use Rattle.lists.proofs.Loops.{Missing, located, missing, map-place, map-rank}
 use Rattle.lists.proofs.Cuts.{rest_more, rest-none}
 use Rattle.lists.proofs.Distinct.{every_at}
@@ -88,7 +88,7 @@ pub record AtSlot (l : Ledger) (t k : ℕ) : Type 0 where
   pub known : has transaction_of t (contents l).entries ≡ true
   pub key : (d : Entry) → transaction_of (plain_entry (lying_at l k d)) ≡ t
 
-pub found_at : (l : Ledger) → Held l → (t k : ℕ) → place (is t) 0 (keys_of l.roster) ≡ At k → AtSlot l t k
+pub found_at : (l : Ledger) → Held l → (t k : ℕ) → place (is t) 0 (keys_of l.roster) ≡ Some k → AtSlot l t k
 unfolding contents
 found_at l h t k e =
     let w = located transaction_of t (entries_of l) k (sym (placed l h t) ∙ e) in
@@ -116,6 +116,6 @@ owed_in l h t s w =
     let a = found_at l h t w.at w.found in
     rw w.slot (record { slot = a.slot; fits = a.fits; good = a.good; got = a.got })
 
-pub not_found : (l : Ledger) → Held l → (t : ℕ) → place (is t) 0 (keys_of l.roster) ≡ Nothing → Missing transaction_of t (contents l).entries
+pub not_found : (l : Ledger) → Held l → (t : ℕ) → place (is t) 0 (keys_of l.roster) ≡ None → Missing transaction_of t (contents l).entries
 unfolding contents
 not_found l h t e = missing transaction_of t (entries_of l) (sym (placed l h t) ∙ e)

@@ -7,6 +7,7 @@ use store::departures::Departures;
 use store::issuers::Issuers;
 use store::roster::Roster;
 use types::Shard;
+use types::refusal::Refusal;
 
 #[derive(Clone, Copy)]
 pub struct Ledger {
@@ -21,10 +22,9 @@ pub struct Ledger {
     pub departures: Departures,
 }
 
-// What a changing call says: 0 or its refusal, its answers (0 where it has none), and the ledger after it.
+// What a changing call says, three answers (0 where it has fewer) or why it is turned away, and the ledger after it.
 #[derive(Clone, Copy)]
 pub struct Done {
-    pub refused: u64,
-    pub answers: [u64; 3],
+    pub said: Result<[u64; 3], Refusal>,
     pub ledger: Ledger,
 }

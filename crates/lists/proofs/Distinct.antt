@@ -1,7 +1,7 @@
 -- Lists in which no number stands twice: what putting in, taking out and swapping keep; and what mapping does to lists changed at a place.
 -- Assumes nothing.
 use Prim.Native.Nat.{ℕ, zero, suc, ◌+◌, ◌≤◌, ◌<◌}
-use mathlib.Core.Path.{◌≡◌, refl, sym, ap}
+use mathlib.Core.Path.{◌≡◌, refl, sym, ap, ◌∙◌}
 use mathlib.Core.Bool.{Bool, true, false, ◌||◌, true≢false}
 use mathlib.Core.List.{List, [], ◌∷◌, ◌++◌, map, append-nil}
 use native.Mathlib.Numerals.{add-one}
@@ -10,6 +10,8 @@ use borrow.Author.Tests.{eqb-false, ne_eqb}
 use lib.Dec.{eqb}
 use lib.ListN.{length, take, drop, get_or, set, take-append-drop, length-set}
 use lib.Seq.{split_at, get_or-set_same, get_or-set_other, take-suc-set, take-set-le, take-set-lt, drop-set-lt, append_snoc}
+use Rattle.std.specs.List.{swap}
+use Rattle.std.proofs.lemmas.List.{get_or_default}
 use Rattle.lists.specs.Lists.{cons_if, keep, keep_by, any, Every, has, self, Ascending}
 use Rattle.lists.specs.Arrays.{insert_at, remove_at, Distinct}
 use Rattle.lists.proofs.Keep.{any_append, every_append}
@@ -133,6 +135,12 @@ every_moved P d a₀ a i j h k q v =
 
 abbrev pub swapped : {A : Type 0} → A → ℕ → ℕ → List A → List A
 swapped d w i a = set (set a i (get_or a w d)) w (get_or a i d)
+
+-- the library's swap
+pub swap_is : {A : Type 0} (d : A) (w i : ℕ) (a : List A) → w < length a → i < length a → swap a i w ≡ swapped d w i a
+swap_is d w i [] h k = refl
+swap_is d w i (x ∷ a) h k =
+    ap (λ y. set (set (x ∷ a) i y) w (get_or (x ∷ a) i x)) (get_or_default (x ∷ a) w x d h) ∙ ap (λ y. set (set (x ∷ a) i (get_or (x ∷ a) w d)) w y) (get_or_default (x ∷ a) i x d k)
 
 pub none_swapped : {A : Type 0} (p : A → Bool) (d : A) (w i : ℕ) (a : List A) → w < length a → i < length a → any p a ≡ false → any p (swapped d w i a) ≡ false
 none_swapped p d w i a h k q =

@@ -9,7 +9,7 @@ use native.Mathlib.Numerals.{add-one}
 use native.Mathlib.Omega.{arith}
 use lib.ListN.{length, take, drop, get_or, drop_of_length-le}
 use lib.Seq.{drop-cons, drop-drop, get_or-take, length-take-le}
-use Rattle.lists.specs.Lists.{any, zip_by, cut, total, self}
+use Rattle.lists.specs.Lists.{any, keep_by, zip_by, cut, total, self}
 use Rattle.lists.specs.Arrays.{insert_at, rank}
 
 module _ {A B C : Type 0} (f : A → B → C) where
@@ -91,3 +91,21 @@ get_d_cut i [] l h = absurd (omega arith)
 get_d_cut zero (n ∷ ns) l h = refl
 get_d_cut (suc i) (n ∷ ns) l h =
     get_d_cut i ns (drop n l) (omega arith) ∙ ap (λ m. take (get_or ns i 0) m) (drop-drop (total self (take i ns)) n l)
+
+-- kept by the same flags, two lists of one length stay side by side
+module _ {A B : Type 0} where
+  pub kept-length : (fs : List Bool) (xs : List A) (ys : List B) → length xs ≡ length ys → length (keep_by fs xs) ≡ length (keep_by fs ys)
+  kept-length [] xs ys h = refl
+  kept-length (b ∷ fs) [] [] h = refl
+  kept-length (b ∷ fs) [] (y ∷ ys) h = absurd (omega arith)
+  kept-length (b ∷ fs) (x ∷ xs) [] h = absurd (omega arith)
+  kept-length (true ∷ fs) (x ∷ xs) (y ∷ ys) h = ap suc (kept-length fs xs ys (omega arith))
+  kept-length (false ∷ fs) (x ∷ xs) (y ∷ ys) h = kept-length fs xs ys (omega arith)
+
+  pub kept-pairs : {C : Type 0} (f : A → B → C) (fs : List Bool) (xs : List A) (ys : List B) → length xs ≡ length ys →
+      zip_by f (keep_by fs xs) (keep_by fs ys) ≡ keep_by fs (zip_by f xs ys)
+  kept-pairs f [] xs ys h = refl
+  kept-pairs f (b ∷ fs) [] ys h = refl
+  kept-pairs f (b ∷ fs) (x ∷ xs) [] h = absurd (omega arith)
+  kept-pairs f (true ∷ fs) (x ∷ xs) (y ∷ ys) h = ap (λ l. f x y ∷ l) (kept-pairs f fs xs ys (omega arith))
+  kept-pairs f (false ∷ fs) (x ∷ xs) (y ∷ ys) h = kept-pairs f fs xs ys (omega arith)

@@ -39,11 +39,13 @@ module _ {A : Type 0} (a : List A) (n : ℕ) where
   pub record Inserted (k : ℕ) (x : A) (b : List A) : Type 0 where
     pub size : length b ≡ length a
     pub front : take (n + 1) b ≡ insert_at k x (take n a)
+    pub whole : b ≡ insert_at k x (remove_at n a)
 
-  -- what stands at k taken out
+  -- what stands at k taken out; what stands at n - 1 then is of no account
   pub record Removed (k : ℕ) (b : List A) : Type 0 where
     pub size : length b ≡ length a
     pub front : take (n - 1) b ≡ remove_at k (take n a)
+    pub whole : remove_at (n - 1) b ≡ remove_at k a
 
 -- the first m of b are those of the first n of a whose flag is up
 pub record Kept {A : Type 0} (stay : List Bool) (a : List A) (n : ℕ) (b : List A) (m : ℕ) : Type 0 where

@@ -8,45 +8,51 @@ use native.Mathlib.Omega.{arith}
 use borrow.Author.Tests.{ne_eqb, lt-ltb, ltb-true}
 use lib.Dec.{eqb, ltb}
 use lib.ListN.{get_or}
-use Rattle.lists.proofs.Loops.{Missing}
+use Rattle.lists.specs.Arrays.{place}
 use Rattle.rules.specs.Plain as plain
 use Rattle.rules.specs.Plain.{Plain, transaction_of}
 use Rattle.rules.specs.Numbers.{is_time}
 use Rattle.rules.specs.Outcome.{Outcome, done, unless, ◌gives◌then◌, yes_no}
 use Rattle.rules.specs.Readings.{Question, question_refusal, lookup, of_entry}
+use Rattle.std.specs.Prelude.{Result, Ok, Err, None}
+use Rattle.std.specs.Int.{from_bool}
+use Rattle.types.specs.declared.refusal.Refusal.{Refusal}
+use Rattle.types.specs.Refusals.{refusal_number}
 use Rattle.entry.specs.declared.Entry.{Entry}
 use Rattle.entry.specs.Entry.{plain_entry}
+use Rattle.store.specs.Roster.{keys_of, is, LiesIn}
 use Rattle.ledger.specs.declared.Ledger.{Ledger}
-use Rattle.ledger.specs.Contents.{contents}
-use Rattle.ledger.proofs.Places.{Owed}
-use Rattle.readings.specs.declared.Answer.{Answer}
+use Rattle.ledger.specs.Contents.{contents, Held}
+use Rattle.ledger.proofs.Places.{owed_in, not_found}
+use Rattle.ledger.proofs.Meeting.{numbered}
 use Rattle.readings.specs.Reads.{Reads}
-use Rattle.readings.specs.Answers.{Tells, Says, Refuses}
 
 -- a number read as held; a test of anything
-pub tells : (n m : ℕ) (p : Plain) (r : Answer) → Tells n r → n ≡ m → Reads (done (m ∷ []) p) [] [] r
-tells n m p r w e = record { refused = w.refused; answer = w.answer ∙ e; wrote = refl }
+pub tells : (n m : ℕ) (p : Plain) → n ≡ m → Reads (done (m ∷ []) p) [] [] (Ok n)
+tells n m p e = record { refused = refl; answer = e; wrote = refl }
 
-pub says : (a b : Bool) (p : Plain) (r : Answer) → Says a r → a ≡ b → Reads (done (yes_no b ∷ []) p) [] [] r
-says a b p r w e = record { refused = w.refused; answer = w.answer ∙ ap yes_no e; wrote = refl }
+as_number : (b : Bool) → from_bool b ≡ yes_no b
+as_number true = refl
+as_number false = refl
+
+pub says : (a b : Bool) (n : ℕ) (p : Plain) → n ≡ from_bool a → a ≡ b → Reads (done (yes_no b ∷ []) p) [] [] (Ok n)
+says a b n p f e = record { refused = refl; answer = f ∙ as_number a ∙ ap yes_no e; wrote = refl }
 
 -- a test of an entry that was found
-pub answered : (q : plain.Entry → Bool) (l : Ledger) (t s : ℕ) (d : Entry) (b : Bool) (r : Answer) → Owed l t s → Says b r →
-    b ≡ q (plain_entry (get_or l.entries s d)) → Reads (lookup q t (contents l)) [] [] r
-answered q l t s d b r a w e = says b (of_entry q (plain.entry_of t (contents l))) (contents l) r w (e ∙ ap (of_entry q) (sym (a.got d)))
+pub answered : (q : plain.Entry → Bool) (l : Ledger) → Held l → (t s : ℕ) → LiesIn l.roster t s → (d : Entry) (b : Bool) (n : ℕ) → n ≡ from_bool b →
+    b ≡ q (plain_entry (get_or l.entries s d)) → Reads (lookup q t (contents l)) [] [] (Ok n)
+answered q l h t s w d b n f e = says b (of_entry q (plain.entry_of t (contents l))) n (contents l) f (e ∙ ap (of_entry q) (sym ((owed_in l h t s w).got d)))
 
 -- no for a transaction that is not owed
-pub unanswered : (q : plain.Entry → Bool) (l : Ledger) (t : ℕ) (r : Answer) → Missing transaction_of t (contents l).entries → Says false r →
-    Reads (lookup q t (contents l)) [] [] r
-unanswered q l t r a w = says false (of_entry q (plain.entry_of t (contents l))) (contents l) r w (ap (of_entry q) (sym a.got))
+pub unanswered : (q : plain.Entry → Bool) (l : Ledger) → Held l → (t : ℕ) → place (is t) 0 (keys_of l.roster) ≡ None → Reads (lookup q t (contents l)) [] [] (Ok 0)
+unanswered q l h t e = says false (of_entry q (plain.entry_of t (contents l))) 0 (contents l) refl (ap (of_entry q) (sym (not_found l h t e).got))
 
--- the table gives a number: it is said, and nothing is written
-pub refuses : (n m : ℕ) (p : Plain) (o : Outcome) (lent : List ℕ) (r : Answer) → 0 < n → Refuses n r → m ≡ n → Reads (unless m p o) lent lent r
-refuses zero m p o lent r h w e = absurd (omega arith)
-refuses (suc n) m p o lent r h w e = rw e (record { refused = w.refused; answer = w.answer; wrote = refl })
+-- the table gives a refusal: it is said, and nothing is written
+pub refuses : (r : Refusal) (m : ℕ) (p : Plain) (o : Outcome) (lent : List ℕ) → m ≡ refusal_number r → Reads (unless m p o) lent lent (Err r)
+refuses r m p o lent e = rw (e ∙ (numbered r).1) (record { refused = (numbered r).1; answer = refl; wrote = refl })
 
 -- the table gives none
-pub passes : (m : ℕ) (p : Plain) (o : Outcome) (lent after : List ℕ) (r : Answer) → m ≡ 0 → Reads o lent after r → Reads (unless m p o) lent after r
+pub passes : (m : ℕ) (p : Plain) (o : Outcome) (lent after : List ℕ) (r : Result ℕ Refusal) → m ≡ 0 → Reads o lent after r → Reads (unless m p o) lent after r
 passes m p o lent after r e g = rw e g
 
 -- A joined test, from where it is decided.

@@ -13,27 +13,29 @@ use Rattle.lists.specs.Lists.{concat_map}
 use Rattle.rules.specs.Plain.{Plain}
 use Rattle.rules.specs.Outcome.{too_short}
 use Rattle.rules.specs.Readings.{listing}
-use Rattle.readings.specs.declared.Answer.{Answer}
-use Rattle.readings.specs.Reads.{Reads}
-use Rattle.readings.specs.Answers.{Tells, Refuses, Lists}
+use Rattle.std.specs.Prelude.{Result, Ok, Err}
+use Rattle.types.specs.declared.refusal.Refusal.{Refusal}
+use Rattle.types.specs.declared.refusal.Refusal.TheVariants.{ListShort}
+use Rattle.types.specs.Refusals.{refusal_number}
+use Rattle.ledger.proofs.Meeting.{numbered}
+use Rattle.readings.specs.Reads.{Reads, Lists}
 use Rattle.readings.proofs.Looked.{refuses, stops}
 
 module _ (words lent : List ℕ) (n items : ℕ) (k : n ≤ length words) where
-  pub listed-none : (r : Answer) → length lent < n → Refuses 9 r → Lists (take n words) items lent lent r
-  listed-none r h w =
+  pub listed-none : length lent < n → Lists (take n words) items lent lent (Err ListShort)
+  listed-none h =
       let t : too_short (length lent) (take n words) ≡ true = rw (length-take-le n words k) (lt-ltb (length lent) n h) in
-      record { refused = rw t w.refused; answer = rw t w.answer; wrote = rw t }
+      record { refused = rw t; answer = rw t; wrote = rw t }
 
-  pub listed-all : (after : List ℕ) (r : Answer) → n ≤ length lent → take n after ≡ take n words → drop n after ≡ drop n lent → Tells items r →
-      Lists (take n words) items lent after r
-  listed-all after r h f b w =
+  pub listed-all : (after : List ℕ) → n ≤ length lent → take n after ≡ take n words → drop n after ≡ drop n lent → Lists (take n words) items lent after (Ok items)
+  listed-all after h f b =
       let t : too_short (length lent) (take n words) ≡ false = rw (length-take-le n words k) (le-ltb (length lent) n h) in
       let e : after ≡ take n words ++ drop n lent = sym (take-append-drop n after) ∙ rw (f, b) in
-      record { refused = rw t w.refused; answer = rw t w.answer; wrote = rw t (rw (length-take-le n words k) e) }
+      record { refused = rw t; answer = rw t; wrote = rw t (rw (length-take-le n words k) e) }
 
 -- the words written out are those of the list's items
 module _ {A : Type 0} (f : A → List ℕ) (items : List A) (p : Plain) (m : ℕ) (lent : List ℕ) where
-  pub reads_list : (after : List ℕ) (r : Answer) → m ≡ 0 → Lists (concat_map f items) (length items) lent after r →
+  pub reads_list : (after : List ℕ) (r : Result ℕ Refusal) → m ≡ 0 → Lists (concat_map f items) (length items) lent after r →
       Reads (listing m (length lent) f items p) lent after r
   reads_list after r z h = rw z (go (too_short (length lent) (concat_map f items)) refl)
     where
@@ -41,5 +43,5 @@ module _ {A : Type 0} (f : A → List ℕ) (items : List A) (p : Plain) (m : ℕ
       go true t = rw t (record { refused = rw t at h.refused; answer = rw t at h.answer; wrote = rw t at h.wrote })
       go false t = rw t (record { refused = rw t at h.refused; answer = rw t at h.answer; wrote = rw t at h.wrote })
 
-  pub turned_away : (n : ℕ) (r : Answer) → m ≡ n → 0 < n → Refuses n r → Reads (listing m (length lent) f items p) lent lent r
-  turned_away n r e h w = refuses n _ p _ lent r h w (stops (ltb 0 m) m _ (lt-ltb 0 m (omega (arith, e))) ∙ e)
+  pub turned_away : (r : Refusal) → m ≡ refusal_number r → Reads (listing m (length lent) f items p) lent lent (Err r)
+  turned_away r e = refuses r _ p _ lent (stops (ltb 0 m) m _ (lt-ltb 0 m (omega (arith, e, (numbered r).1))) ∙ e)

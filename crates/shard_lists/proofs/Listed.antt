@@ -1,5 +1,6 @@
 -- A list of a transaction's reading: empty where it is not owed, else what is written of its entry.
 -- Assumes nothing.
+use Rattle.std.specs.Prelude.{None}
 use Prim.Native.Nat.{ℕ, ◌≤◌, ◌<◌}
 use mathlib.Core.Path.{◌≡◌, refl, sym}
 use mathlib.Core.Bool.{false}
@@ -11,7 +12,6 @@ use lib.ListN.{length, take, get_or}
 use lib.Seq.{length-take-le}
 use Rattle.lists.specs.Arrays.{place}
 use Rattle.lists.proofs.Sets.{concat_map-single}
-use Rattle.lists.specs.declared.Found.TheVariants.{Nothing}
 use Rattle.rules.specs.Plain as plain
 use Rattle.rules.specs.Plain.{Plain, entry_of}
 use Rattle.rules.specs.Readings.{listing, single, list_of, read, list_unstamped, list_counterparts, unstamped_departures, counterparts, counterparts_of, depth_refusal}
@@ -46,7 +46,7 @@ nothing lent r w =
     record { refused = rw t w.refused; answer = rw t w.answer; wrote = rw t }
 
 module _ (l : Ledger) (h : Held l) (t : ℕ) (lent : List ℕ) (f : plain.Entry → List ℕ) (m : ℕ) (z : m ≡ 0) where
-  pub not-owed : (r : Answer) → place (is t) 0 (keys_of l.roster) ≡ Nothing → Tells 0 r →
+  pub not-owed : (r : Answer) → place (is t) 0 (keys_of l.roster) ≡ None → Tells 0 r →
       Reads (listing m (length lent) single (list_of f (entry_of t (contents l))) (contents l)) lent lent r
   not-owed r e w = rw (not_found l h t e).got (alone [] lent lent r (contents l) m z (nothing lent r w))
 
@@ -73,7 +73,7 @@ module _ (l : Ledger) (h : Held l) (t d : ℕ) (lent : List ℕ) where
   shallow : d ≤ 32 → depth_refusal d ≡ 0
   shallow b = rw (le-ltb 32 d b)
 
-  pub no_counterparts : (r : Answer) → d ≤ 32 → place (is t) 0 (keys_of l.roster) ≡ Nothing → Tells 0 r →
+  pub no_counterparts : (r : Answer) → d ≤ 32 → place (is t) 0 (keys_of l.roster) ≡ None → Tells 0 r →
       Reads (read (list_counterparts t d (length lent)) (contents l)) lent lent r
   unfolding counterparts
   no_counterparts r b e w = not-owed l h t lent (counterparts_of (contents l) d) (depth_refusal d) (shallow b) r e w

@@ -20,7 +20,6 @@ ghost use Rattle.types.specs.Transactions.{number_of};
 
 use entry::Entry;
 use ledger::Ledger;
-use lists::Found;
 use readings::Answer;
 use readings::reply::{answer, list, refusal};
 use store::departures::{Departure, Departures};
@@ -62,7 +61,7 @@ pub fn reach(ledger: Ledger, tx: Transaction, lent: &mut [u64]) -> Answer
     ensures { Reads (read (rules.reach (number_of tx) (length lent.old)) (contents ledger)) lent.old lent.new result }
 {
     let roster = ledger.roster;
-    let Found::At(slot) = roster.slot_of(tx) else {
+    let Some(slot) = roster.slot_of(tx) else {
         return answer(0);
     };
     let e = ledger.entries[slot];
@@ -102,7 +101,7 @@ pub fn claimants(ledger: Ledger, tx: Transaction, r: RecordKey, lent: &mut [u64]
     ensures { Reads (read (rules.list_claimants (number_of tx) r.0 (length lent.old)) (contents ledger)) lent.old lent.new result }
 {
     let roster = ledger.roster;
-    let Found::At(slot) = roster.slot_of(tx) else {
+    let Some(slot) = roster.slot_of(tx) else {
         return answer(0);
     };
     let e = ledger.entries[slot];
@@ -218,7 +217,7 @@ pub fn counterparts(ledger: Ledger, tx: Transaction, depth: u64, lent: &mut [u64
         return refusal(5);
     }
     let roster = ledger.roster;
-    let Found::At(slot) = roster.slot_of(tx) else {
+    let Some(slot) = roster.slot_of(tx) else {
         return answer(0);
     };
     let e = ledger.entries[slot];

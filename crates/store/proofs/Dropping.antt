@@ -51,6 +51,10 @@ gone-among (b ∷ bs) [] t = refl
 gone-among (true ∷ bs) (u ∷ ts) t = gone-among bs ts t
 gone-among (false ∷ bs) (u ∷ ts) t = rw (eqb_swap t u) (ap (λ c. eqb u t || c) (gone-among bs ts t))
 
+-- the pair's transaction is not among these
+abbrev pub apart : List ℕ → Pair → Bool
+apart ts q = not (has self q.transaction ts)
+
 -- the pairs that are left are those of transactions that are not gone
 abbrev pub remains : List Bool → List ℕ → Pair → Bool
 remains bs ts q = not (is_dropped bs ts q.transaction)

@@ -4,3 +4,4 @@ pub mod Filed
 pub mod Typed
 pub mod Keyed
 pub mod Dropping
+pub mod Keeping

@@ -8,7 +8,7 @@ use lib.ListN.{get_or}
 use lib.Seq.{length-take-le}
 use Rattle.lists.specs.Lists.{has, self}
 use Rattle.lists.specs.Arrays.{place}
-use Rattle.lists.specs.declared.Found.TheVariants.{At}
+use Rattle.std.specs.Prelude.{Some}
 use Rattle.lists.proofs.Distinct.{every_at, take_lacks}
 use Rattle.lists.proofs.Loops.{located}
 use Rattle.store.specs.Roster.{Sound, keys_of, slots_of, free_slot, is}
@@ -23,6 +23,6 @@ free_slot_lem r s h = (
 pub slot-within : (r : Roster) (k : ℕ) → Sound r → k < r.len → get_or r.slots k 0 < 48
 slot-within r k s h = every_at (λ x. x < 48) 0 k r.slots (omega (arith, s.slot_length, s.room)) s.within
 
-pub found_below : (r : Roster) (t k : ℕ) → Sound r → place (is t) 0 (keys_of r) ≡ At k → k < r.len
+pub found_below : (r : Roster) (t k : ℕ) → Sound r → place (is t) 0 (keys_of r) ≡ Some k → k < r.len
 found_below r t k s e =
     omega (arith, (located self t (keys_of r) k e).below, length-take-le r.len r.keys (omega (arith, s.room, s.key_length)))

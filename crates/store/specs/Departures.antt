@@ -1,15 +1,22 @@
 -- What the departures on file are.
-use Rattle.std.specs.Prelude.{ℕ, ◌≤◌, ◌≡◌, Bool, cond, List, map, eqb, ltb, length, take}
+use Rattle.std.specs.Prelude.{ℕ, ◌≤◌, ◌≡◌, Bool, List, map, eqb, ltb, length, take, Option, Some, None}
+use Rattle.std.proofs.Math.Option as maths
 use Rattle.std.proofs.Math.Option.{none, some}
 use Rattle.lists.specs.Lists.{Ascending}
 use Rattle.rules.specs.Plain as plain
 use Rattle.rules.specs.Plain.{shard_of}
 use Rattle.rules.specs.Calls.{departed}
+use Rattle.types.specs.declared.Time.{Time}
 use Rattle.store.specs.declared.departures.Departure.{Departure}
 use Rattle.store.specs.declared.departures.Departures.{Departures}
 
+-- the stamp as the rules have it
+abbrev pub stamp_of : Option Time → maths.Option ℕ
+stamp_of None = none
+stamp_of (Some t) = some t.0
+
 abbrev pub plain_departure : Departure → plain.Departure
-plain_departure d = record { shard = d.shard.0; cut = d.cut.0; stamp = cond d.stamped (some d.until.0) none }
+plain_departure d = record { shard = d.shard.0; cut = d.cut.0; stamp = stamp_of d.until }
 
 abbrev pub on_file : Departures → List plain.Departure
 on_file x = map plain_departure (take x.len x.items)

@@ -1,9 +1,7 @@
 -- What a roster holds, and what putting in, letting go and keeping do to it.
-use Rattle.std.specs.Prelude.{ℕ, ◌+◌, ◌-◌, ◌≤◌, ◌<◌, ◌≡◌, Bool, List, eqb, ltb, length, take, get_or}
+use Rattle.std.specs.Prelude.{ℕ, ◌+◌, ◌-◌, ◌≤◌, ◌<◌, ◌≡◌, Bool, List, eqb, ltb, length, take, get_or, Option, Some, None}
 use Rattle.lists.specs.Lists.{Every, keep_by}
 use Rattle.lists.specs.Arrays.{place, insert_at, remove_at, Distinct}
-use Rattle.lists.specs.declared.Found.{Found}
-use Rattle.lists.specs.declared.Found.TheVariants.{At, Nothing}
 use Rattle.store.specs.declared.roster.Roster.{Roster}
 
 abbrev pub keys_of : Roster → List ℕ
@@ -33,14 +31,14 @@ pub record Sound (r : Roster) : Type 0 where
 -- the transaction stands at a place, and that place's slot, one of the forty-eight, is s
 pub record LiesIn (r : Roster) (t s : ℕ) : Type 0 where
   pub at : ℕ
-  pub found : place (is t) 0 (keys_of r) ≡ At at
+  pub found : place (is t) 0 (keys_of r) ≡ Some at
   pub slot : s ≡ get_or r.slots at 0
   pub small : s < 48
 
 -- what looking for its slot says
-abbrev pub SlotOf : Roster → ℕ → Found → Type 0
-SlotOf r t (At s) = LiesIn r t s
-SlotOf r t Nothing = place (is t) 0 (keys_of r) ≡ Nothing
+abbrev pub SlotOf : Roster → ℕ → Option ℕ → Type 0
+SlotOf r t (Some s) = LiesIn r t s
+SlotOf r t None = place (is t) 0 (keys_of r) ≡ None
 
 pub record Fresh (r : Roster) : Type 0 where
   pub sound : Sound r

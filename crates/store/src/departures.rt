@@ -6,18 +6,18 @@ ghost use Rattle.rules.specs.Plain.{shard_of};
 ghost use Rattle.rules.specs.Calls.{departed, stamped};
 ghost use Rattle.store.specs.Departures.{Sound, Holds, Rising, on_file, plain_departure, is_of, is_under, room_for};
 
-use lists::Found;
+use lists::fronts;
 use types::{Shard, Time};
 
-// until is 0 while the departure is unstamped.
+// until is the stamp, and None while the departure has none.
 #[derive(Clone, Copy)]
 pub struct Departure {
     pub shard: Shard,
     pub cut: Time,
-    pub until: Time,
-    pub stamped: bool,
+    pub until: Option<Time>,
 }
 
+// A front of fixed memory with its length, since the ledger has no heap.
 #[derive(Clone, Copy)]
 pub struct Departures {
     pub items: [Departure; 32],
@@ -29,13 +29,10 @@ impl Departure {
     fn with_stamp(self, until: Time) -> Departure
         ensures { plain_departure result ≡ stamped until.0 (plain_departure self) }
     {
-        let mut d = self;
-        if d.stamped {
-            return d;
+        Departure {
+            until: self.until.or(Some(until)),
+            ..self
         }
-        d.until = until;
-        d.stamped = true;
-        d
     }
 }
 
@@ -46,8 +43,7 @@ impl Departures {
         let d = Departure {
             shard: Shard(0),
             cut: Time(0),
-            until: Time(0),
-            stamped: false,
+            until: None,
         };
         Departures {
             items: [d; 32],
@@ -55,19 +51,11 @@ impl Departures {
         }
     }
 
-    pub fn find(self, shard: Shard) -> Found
+    pub fn find(self, shard: Shard) -> Option<usize>
         requires { Sound self }
         ensures { result ≡ place (is_of shard.0) 0 (on_file self) }
     {
-        let n = self.len;
-        let mut i: usize = 0;
-        while i < n {
-            if self.items[i].shard.0 == shard.0 {
-                return Found::At(i);
-            }
-            i += 1;
-        }
-        Found::Nothing
+        self.items[..self.len].iter().position(|d| d.shard == shard)
     }
 
     // How many departures are of a lower shard.
@@ -75,34 +63,20 @@ impl Departures {
         requires { Sound self }
         ensures { result ≡ rank (is_under shard.0) (on_file self) }
     {
-        let n = self.len;
-        let mut i: usize = 0;
-        while i < n {
-            if self.items[i].shard.0 < shard.0 {
-                i += 1;
-            } else {
-                return i;
-            }
-        }
-        i
+        self.items[..self.len]
+            .iter()
+            .take_while(|d| d.shard < shard)
+            .count()
     }
 
-    // The departure put in at k: those from k on move up by one, from the end.
+    // The departure put in at k.
     fn insert_at(self, k: usize, d: Departure) -> Departures
         requires { Sound self × (k ≤ self.len) × (self.len < 32) }
         ensures { Holds (insert_at k (plain_departure d) (on_file self)) result }
     {
         let mut x = self;
-        let n = x.len;
-        let mut i = n;
-        while k < i {
-            let j = i - 1;
-            let e = x.items[j];
-            x.items[i] = e;
-            i = j;
-        }
-        x.items[k] = d;
-        x.len = n + 1;
+        fronts::insert_at(&mut x.items, self.len, k, d);
+        x.len += 1;
         x
     }
 
@@ -111,14 +85,13 @@ impl Departures {
         requires { Sound self × Rising self × room_for self shard.0 cut.0 }
         ensures { Holds (departed shard.0 cut.0 (on_file self)) result }
     {
-        let Found::Nothing = self.find(shard) else {
+        let None = self.find(shard) else {
             return self;
         };
         let d = Departure {
             shard,
             cut,
-            until: Time(0),
-            stamped: false,
+            until: None,
         };
         let k = self.rank(shard);
         self.insert_at(k, d)
@@ -129,13 +102,12 @@ impl Departures {
         requires { Sound self × Rising self }
         ensures { Holds (change shard_of shard.0 (stamped until.0) (on_file self)) result }
     {
-        let Found::At(i) = self.find(shard) else {
+        let Some(i) = self.find(shard) else {
             return self;
         };
         let mut x = self;
         let d = x.items[i];
-        let e = d.with_stamp(until);
-        x.items[i] = e;
+        x.items[i] = d.with_stamp(until);
         x
     }
 
@@ -145,20 +117,7 @@ impl Departures {
         ensures { Holds (keep_by (take self.len stay) (on_file self)) result }
     {
         let mut x = self;
-        let n = x.len;
-        let mut w: usize = 0;
-        let mut i: usize = 0;
-        while i < n {
-            if stay[i] {
-                let d = x.items[i];
-                x.items[w] = d;
-                w += 1;
-                i += 1;
-            } else {
-                i += 1;
-            }
-        }
-        x.len = w;
+        x.len = fronts::retain(&mut x.items, self.len, &stay);
         x
     }
 }

@@ -5,10 +5,11 @@ ghost use Rattle.store.specs.Roster.{keys_of};
 ghost use Rattle.store.specs.Issuers.{Sound, Holds, pairs_in};
 ghost use Rattle.store.specs.Leaving.{unnamed_by, dropped_by, Fronts};
 
-use crate::issuers::{Issuers, transaction_at};
+use crate::issuers::Issuers;
 use crate::roster::Roster;
+use types::Transaction;
 
-// Transactions at the front of an array.
+// Transactions at the front of an array, since the ledger has no heap.
 #[derive(Clone, Copy)]
 pub struct Dropped {
     pub transactions: [u64; 48],
@@ -20,17 +21,12 @@ fn dropped_from(roster: Roster, stay: [bool; 48]) -> Dropped
     requires { rosters.Sound roster }
     ensures { Fronts (dropped_by (take roster.len stay) (keys_of roster)) result }
 {
-    let n = roster.len;
-    let mut transactions = [0u64; 48];
-    let mut len: usize = 0;
-    let mut i: usize = 0;
-    while i < n {
-        if stay[i] {
-            i += 1;
-        } else {
+    let mut transactions = [0; 48];
+    let mut len = 0;
+    for i in 0..roster.len {
+        if !stay[i] {
             transactions[len] = roster.keys[i];
             len += 1;
-            i += 1;
         }
     }
     Dropped { transactions, len }
@@ -43,18 +39,13 @@ pub fn without_dropped(issuers: Issuers, roster: Roster, stay: [bool; 48]) -> Is
     ensures { Holds (unnamed_by (take roster.len stay) (keys_of roster) (pairs_in issuers)) result }
 {
     let gone = dropped_from(roster, stay);
-    let transactions = gone.transactions;
-    let m = gone.len;
-    if m == 0 {
+    if gone.len == 0 {
         return issuers;
     }
-    let n = issuers.len;
     let mut named = [false; 384];
-    let mut i: usize = 0;
-    while i < n {
-        let tx = transaction_at(&issuers.transactions, i);
-        named[i] = !tx.is_among(&transactions[0..m]);
-        i += 1;
+    for i in 0..issuers.len {
+        let tx = Transaction(issuers.transactions[i]);
+        named[i] = !tx.is_among(&gone.transactions[..gone.len]);
     }
     issuers.retain(named)
 }

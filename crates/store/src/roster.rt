@@ -1,13 +1,14 @@
 // The owed transactions in rising order, each with the slot in which its entry lies. Entries never move: putting one in or letting
 // one go shifts numbers only. The slots not in use stand behind those in use, so that all forty-eight are always there once.
-ghost use Rattle.std.specs.Prelude.{◌≡◌, ◌≤◌, ◌<◌, take, get_or};
+ghost use Rattle.std.specs.Prelude.{◌≡◌, ◌≤◌, ◌<◌, take};
 ghost use Rattle.lists.specs.Arrays.{place, rank};
 ghost use Rattle.store.specs.Roster.{Sound, SlotOf, Fresh, Inserted, Removed, Retained, keys_of, is, below};
 ghost use Rattle.types.specs.Transactions.{number_of};
 
-use lists::Found;
+use lists::{fronts, sorted};
 use types::Transaction;
 
+// Sorted arrays of fixed memory with their length, since the ledger has no heap.
 #[derive(Clone, Copy)]
 pub struct Roster {
     pub keys: [u64; 48],
@@ -20,50 +21,34 @@ const SLOTS: [usize; 48] = [
     26, 27, 28, 29, 30, 31, 32, 33, 34, 35, 36, 37, 38, 39, 40, 41, 42, 43, 44, 45, 46, 47,
 ];
 
-// The transaction at a place. The array is lent, so that a loop over the places copies nothing.
-pub fn transaction_at(keys: &[u64; 48], i: usize) -> Transaction
-    ensures { number_of result ≡ get_or keys.now i 0 }
-{
-    Transaction::read(keys, i)
-}
-
 impl Roster {
     pub fn new() -> Roster
         ensures { Fresh result }
     {
         Roster {
-            keys: [0u64; 48],
+            keys: [0; 48],
             slots: SLOTS,
             len: 0,
         }
     }
 
     // Where the transaction stands.
-    pub fn find(self, tx: Transaction) -> Found
+    pub fn find(self, tx: Transaction) -> Option<usize>
         requires { Sound self }
         ensures { result ≡ place (is (number_of tx)) 0 (keys_of self) }
     {
-        let n = self.len;
-        let mut i: usize = 0;
-        while i < n {
-            let other = Transaction(self.keys[i]);
-            if other.is(tx) {
-                return Found::At(i);
-            }
-            i += 1;
-        }
-        Found::Nothing
+        self.keys[..self.len].iter().position(|k| *k == tx.0)
     }
 
     // The slot in which the transaction's entry lies.
-    pub fn slot_of(self, tx: Transaction) -> Found
+    pub fn slot_of(self, tx: Transaction) -> Option<usize>
         requires { Sound self }
         ensures { SlotOf self (number_of tx) result }
     {
-        let Found::At(k) = self.find(tx) else {
-            return Found::Nothing;
+        let Some(k) = self.find(tx) else {
+            return None;
         };
-        Found::At(self.slots[k])
+        Some(self.slots[k])
     }
 
     // How many stand before the transaction: where it is to be put in.
@@ -71,7 +56,7 @@ impl Roster {
         requires { Sound self }
         ensures { result ≡ rank (below (number_of tx)) (keys_of self) }
     {
-        lists::sorted::rank(&self.keys, self.len, tx.0)
+        sorted::rank(&self.keys, self.len, tx.0)
     }
 
     // The transaction put in at a place, with the first slot that is not in use.
@@ -80,18 +65,10 @@ impl Roster {
         ensures { Inserted self k (number_of tx) result }
     {
         let mut r = self;
-        let n = r.len;
-        let slot = r.slots[n];
-        let mut i = n;
-        while k < i {
-            let j = i - 1;
-            r.keys[i] = r.keys[j];
-            r.slots[i] = r.slots[j];
-            i = j;
-        }
-        r.keys[k] = tx.0;
-        r.slots[k] = slot;
-        r.len = n + 1;
+        let slot = r.slots[r.len];
+        fronts::insert_at(&mut r.keys, self.len, k, tx.0);
+        fronts::insert_at(&mut r.slots, self.len, k, slot);
+        r.len += 1;
         r
     }
 
@@ -103,13 +80,8 @@ impl Roster {
         let mut r = self;
         let m = r.len - 1;
         let slot = r.slots[k];
-        let mut i = k;
-        while i < m {
-            let j = i + 1;
-            r.keys[i] = r.keys[j];
-            r.slots[i] = r.slots[j];
-            i = j;
-        }
+        fronts::remove_at(&mut r.keys, self.len, k);
+        fronts::remove_at(&mut r.slots, self.len, k);
         r.slots[m] = slot;
         r.len = m;
         r
@@ -121,18 +93,13 @@ impl Roster {
         ensures { Retained self (take self.len stay) result }
     {
         let mut r = self;
-        let n = r.len;
-        let mut w: usize = 0;
-        let mut i: usize = 0;
-        while i < n {
+        let mut w = 0;
+        for i in 0..self.len {
             if stay[i] {
-                let slot = r.slots[i];
                 r.keys[w] = r.keys[i];
-                r.slots[i] = r.slots[w];
-                r.slots[w] = slot;
+                r.slots.swap(i, w);
                 w += 1;
             }
-            i += 1;
         }
         r.len = w;
         r

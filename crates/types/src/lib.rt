@@ -2,6 +2,7 @@
 // a shard's depth and the routes it owns, record keys and cell keys.
 #![tactic(auto)]
 
+pub mod refusal;
 pub mod widths;
 
 ghost use Rattle.std.specs.Prelude.{◌≡◌, ◌+◌, ◌≤◌, true, length, ◌/◌, ◌^◌, nat_le};

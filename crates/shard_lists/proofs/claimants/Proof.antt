@@ -11,9 +11,9 @@ use borrow.Author.Rules.{rules}
 use Rattle.shard_lists.proofs.claimants.Statement.{statement}
 use Rattle.shard_lists.proofs.claimants.Tie as tie
 
-there : (c : tie.In-At) → Owed c.args.ledger (number_of c.args.tx) c.in-At.slot
+there : (c : tie.In-Some) → Owed c.args.ledger (number_of c.args.tx) c.in-Some.slot
 there c =
-    owed_in c.args.ledger c.requires (number_of c.args.tx) c.in-At.slot (rw c.in-At.is at c.slot_of.ensures)
+    owed_in c.args.ledger c.requires (number_of c.args.tx) c.in-Some.slot (rw c.in-Some.is at c.slot_of.ensures)
 
 slot_of-requires : tie.Need-slot_of-requires
 slot_of-requires c κs = search rules
@@ -56,7 +56,7 @@ unfolding claimants contents
 returns c =
     let a = c.args in
     let d = c.destinations-n.ensures in
-    of_owed a.ledger c.requires (number_of a.tx) a.lent.now (claimants_of a.ledger.local.0 a.r.0) 0 refl c.in-At.slot _ _ _ _ _
+    of_owed a.ledger c.requires (number_of a.tx) a.lent.now (claimants_of a.ledger.local.0 a.r.0) 0 refl c.in-Some.slot _ _ _ _ _
     (there c.before.before.before.before.before.before.before.before.before) (set_room d) d.holds c.list.ensures
 
 pub claimants_spec : {M : Type 1} → statement M

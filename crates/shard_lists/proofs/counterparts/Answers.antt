@@ -13,12 +13,12 @@ returns-in_default c =
 
 pub bounds-ledger-slot : goal.bounds-ledger-slot
 bounds-ledger-slot c =
-    omega (arith, (owed_in c.args.ledger c.requires (number_of c.args.tx) c.in-At.slot (rw c.in-At.is at c.slot_of.ensures)).slot)
+    omega (arith, (owed_in c.args.ledger c.requires (number_of c.args.tx) c.in-Some.slot (rw c.in-Some.is at c.slot_of.ensures)).slot)
 
 pub beyond-n-requires : goal.beyond-n-requires
 unfolding contents
 beyond-n-requires c =
-    let there = owed_in c.args.ledger c.requires (number_of c.args.tx) c.in-At.slot (rw c.in-At.is at c.slot_of.ensures) in
+    let there = owed_in c.args.ledger c.requires (number_of c.args.tx) c.in-Some.slot (rw c.in-Some.is at c.slot_of.ensures) in
     (there.fits _, record { sound = c.requires.departures; rising = c.requires.good.departures.rows.order; good = c.requires.good.departures.rows.each }, c.requires.good.frame.local, le-leb c.args.depth 32 (omega arith), search rules)
 
 pub slice_bounds-list-end : goal.slice_bounds-list-end
@@ -29,6 +29,6 @@ list-requires c = set_room c.beyond-n.ensures
 
 pub returns : goal.returns
 returns c =
-    let there = owed_in c.args.ledger c.requires (number_of c.args.tx) c.in-At.slot (rw c.in-At.is at c.slot_of.ensures) in
-    of_counterparts c.args.ledger c.requires (number_of c.args.tx) c.args.depth c.args.lent.now (omega arith) c.in-At.slot _ _ _ _
+    let there = owed_in c.args.ledger c.requires (number_of c.args.tx) c.in-Some.slot (rw c.in-Some.is at c.slot_of.ensures) in
+    of_counterparts c.args.ledger c.requires (number_of c.args.tx) c.args.depth c.args.lent.now (omega arith) c.in-Some.slot _ _ _ _
     there c.beyond-n.ensures c.list.ensures

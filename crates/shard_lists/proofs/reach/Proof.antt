@@ -11,9 +11,9 @@ use borrow.Author.Rules.{rules}
 use Rattle.shard_lists.proofs.reach.Statement.{statement}
 use Rattle.shard_lists.proofs.reach.Tie as tie
 
-there : (c : tie.In-At) → Owed c.args.ledger (number_of c.args.tx) c.in-At.slot
+there : (c : tie.In-Some) → Owed c.args.ledger (number_of c.args.tx) c.in-Some.slot
 there c =
-    owed_in c.args.ledger c.requires (number_of c.args.tx) c.in-At.slot (rw c.in-At.is at c.slot_of.ensures)
+    owed_in c.args.ledger c.requires (number_of c.args.tx) c.in-Some.slot (rw c.in-Some.is at c.slot_of.ensures)
 
 slot_of-requires : tie.Need-slot_of-requires
 slot_of-requires c κs = search rules
@@ -52,7 +52,7 @@ shape_of-lent c = search rules
 returns : tie.Need-returns
 unfolding plain_entry
 returns c =
-    of_owed c.args.ledger c.requires (number_of c.args.tx) c.args.lent.now (λ (e : plain.Entry). e.terms.routes) 0 refl c.in-At.slot _ _ _ _ _
+    of_owed c.args.ledger c.requires (number_of c.args.tx) c.args.lent.now (λ (e : plain.Entry). e.terms.routes) 0 refl c.in-Some.slot _ _ _ _ _
     (there c.before.before.before.before.before.before.before.before) (routes-room ((there c.before.before.before.before.before.before.before.before).fits _)) refl c.list.ensures
 
 pub reach_spec : {M : Type 1} → statement M

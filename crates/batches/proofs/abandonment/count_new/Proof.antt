@@ -90,7 +90,7 @@ loop-i-preserved c =
     let l = c.loop-i in
     let ws = c.args.words.now in
     let done = turn_new (keys_of c.args.roster) (transactions ws) l.i (omega (arith, few c.before.before.before.before.before, transactions-length ws c.requires.1)) c.group_transaction-tx.result.0 (which c.before.before.before.before)
-    (missing self c.group_transaction-tx.result.0 (keys_of c.args.roster) (sym c.find.ensures ∙ c.in-Nothing.is)).known (sym c.is_among.ensures ∙ c.if-is_among.false) in
+    (missing self c.group_transaction-tx.result.0 (keys_of c.args.roster) (sym c.find.ensures ∙ c.in-None.is)).known (sym c.is_among.ensures ∙ c.if-is_among.false) in
     (search rules, search rules, omega (arith, done, l.invariant.2))
 
 returns : tie.Need-returns invariant-loop-i decreases-loop-i

@@ -58,16 +58,16 @@ stands c =
     }
 
 -- the transaction was found
-there : (c : tie.In-At invariant-loop-i decreases-loop-i) → AtSlot c.loop-i.ledger (number_of c.group-e.result.tx) c.in-At.k
+there : (c : tie.In-Some invariant-loop-i decreases-loop-i) → AtSlot c.loop-i.ledger (number_of c.group-e.result.tx) c.in-Some.k
 there c =
-    found_at c.loop-i.ledger (stands c.before.before.before.before.before.before).so.doing.held _ c.in-At.k (sym c.find.ensures ∙ c.in-At.is)
+    found_at c.loop-i.ledger (stands c.before.before.before.before.before.before).so.doing.held _ c.in-Some.k (sym c.find.ensures ∙ c.in-Some.is)
 
 -- it was not, and there is room
-room : (c : tie.In-Nothing invariant-loop-i decreases-loop-i) → c.loop-i.ledger.roster.len < 48
+room : (c : tie.In-None invariant-loop-i decreases-loop-i) → c.loop-i.ledger.roster.len < 48
 room c =
     let o = c.loop-i in
     group_room c.args.ledger c.args.words.now (stands c.before.before.before.before.before.before).passed o.ledger o.at o.rebuilt o.i (stands c.before.before.before.before.before.before).so (stands c.before.before.before.before.before.before).group c.group-e.result c.group-e.ensures
-    (sym c.find.ensures ∙ c.in-Nothing.is)
+    (sym c.find.ensures ∙ c.in-None.is)
 
 -- how many groups there are at most
 few : (c : tie.After-record_shard-shard invariant-loop-i decreases-loop-i) → c.items_of-n.result ≤ 48
@@ -125,22 +125,22 @@ bounds-ledger-slot c = (there c.before).slot
 with_departed_by-requires : tie.Need-with_departed_by-requires invariant-loop-i decreases-loop-i
 with_departed_by-requires c κs = (there c.before.before).fits _
 
-offset_bounds-ledger-slot-in-At : tie.Need-offset_bounds-ledger-slot-in-At invariant-loop-i decreases-loop-i
-offset_bounds-ledger-slot-in-At c = omega (arith, (there c.before.before.before).slot)
+offset_bounds-ledger-slot-in-Some : tie.Need-offset_bounds-ledger-slot-in-Some invariant-loop-i decreases-loop-i
+offset_bounds-ledger-slot-in-Some c = omega (arith, (there c.before.before.before).slot)
 
-bounds-ledger-slot-in-At : tie.Need-bounds-ledger-slot-in-At invariant-loop-i decreases-loop-i
-bounds-ledger-slot-in-At c = (there c.before.before.before).slot
+bounds-ledger-slot-in-Some : tie.Need-bounds-ledger-slot-in-Some invariant-loop-i decreases-loop-i
+bounds-ledger-slot-in-Some c = (there c.before.before.before).slot
 
-loop-i-smaller-in-At : tie.Need-loop-i-smaller-in-At invariant-loop-i decreases-loop-i
-loop-i-smaller-in-At c = omega (arith, stands c.before.before.before.before.before.before.before.before.before)
+loop-i-smaller-in-Some : tie.Need-loop-i-smaller-in-Some invariant-loop-i decreases-loop-i
+loop-i-smaller-in-Some c = omega (arith, stands c.before.before.before.before.before.before.before.before.before)
 
-loop-i-preserved-in-At : tie.Need-loop-i-preserved-in-At invariant-loop-i decreases-loop-i
-loop-i-preserved-in-At c =
+loop-i-preserved-in-Some : tie.Need-loop-i-preserved-in-Some invariant-loop-i decreases-loop-i
+loop-i-preserved-in-Some c =
     let o = c.loop-i in
     rw c.reach_at-at.ensures
     (goes_on c.refusal-refused.result c.args.ledger _ _ _ (stands c.before.before.before.before.before.before.before.before.before).none
     (group_owed c.args.ledger c.args.words.now (stands c.before.before.before.before.before.before.before.before.before).passed o.ledger o.at o.rebuilt o.i (stands c.before.before.before.before.before.before.before.before.before).so (stands c.before.before.before.before.before.before.before.before.before).group c.group-e.result c.group-e.ensures
-    c.in-At.k _ c.with_departed_by.result (sym c.find.ensures ∙ c.in-At.is) (rw c.record_shard-shard.ensures at c.with_departed_by.ensures)))
+    c.in-Some.k _ c.with_departed_by.result (sym c.find.ensures ∙ c.in-Some.is) (rw c.record_shard-shard.ensures at c.with_departed_by.ensures)))
 
 enum_told-1 : tie.Need-enum_told-1 invariant-loop-i decreases-loop-i
 enum_told-1 c = search rules
@@ -158,11 +158,11 @@ insert_at-ledger-requires : tie.Need-insert_at-ledger-requires invariant-loop-i 
 insert_at-ledger-requires c κs =
     ((stands c.before.before.before.before.before.before.before.before).so.doing.held.roster, omega (arith, c.rank.ensures, ranks_within c.loop-i.ledger (stands c.before.before.before.before.before.before.before.before).so.doing.held (number_of c.group-e.result.tx)), room c.before.before)
 
-offset_bounds-ledger-slot-in-Nothing : tie.Need-offset_bounds-ledger-slot-in-Nothing invariant-loop-i decreases-loop-i
-offset_bounds-ledger-slot-in-Nothing c = let w = c in omega (arith, free_slot_lem w.loop-i.ledger (stands w.before.before.before.before.before.before.before.before.before).so.doing.held (room c.before.before.before))
+offset_bounds-ledger-slot-in-None : tie.Need-offset_bounds-ledger-slot-in-None invariant-loop-i decreases-loop-i
+offset_bounds-ledger-slot-in-None c = let w = c in omega (arith, free_slot_lem w.loop-i.ledger (stands w.before.before.before.before.before.before.before.before.before).so.doing.held (room c.before.before.before))
 
-bounds-ledger-slot-in-Nothing : tie.Need-bounds-ledger-slot-in-Nothing invariant-loop-i decreases-loop-i
-bounds-ledger-slot-in-Nothing c = let w = c in free_slot_lem w.loop-i.ledger (stands w.before.before.before.before.before.before.before.before.before).so.doing.held (room c.before.before.before)
+bounds-ledger-slot-in-None : tie.Need-bounds-ledger-slot-in-None invariant-loop-i decreases-loop-i
+bounds-ledger-slot-in-None c = let w = c in free_slot_lem w.loop-i.ledger (stands w.before.before.before.before.before.before.before.before.before).so.doing.held (room c.before.before.before)
 
 overflow_add-rebuilt : tie.Need-overflow_add-rebuilt invariant-loop-i decreases-loop-i
 overflow_add-rebuilt c = omega (arith, stands c.before.before.before.before.before.before.before.before.before, rebuilt-few _ _ _ _ _ _ (stands c.before.before.before.before.before.before.before.before.before).passed.formed (stands c.before.before.before.before.before.before.before.before.before).so)
@@ -177,7 +177,7 @@ loop-i-preserved c =
     rw c.reach_at-at.ensures
     (goes_on c.refusal-refused.result c.args.ledger _ _ _ (stands c.before.before.before.before.before.before.before.before.before).none
     (group_new c.args.ledger c.args.words.now (stands c.before.before.before.before.before.before.before.before.before).passed o.ledger o.at o.rebuilt o.i (stands c.before.before.before.before.before.before.before.before.before).so (stands c.before.before.before.before.before.before.before.before.before).group c.group-e.result c.group-e.ensures
-    words c.rank.result c.insert_at-ledger.result (sym c.find.ensures ∙ c.in-Nothing.is) c.rank.ensures c.insert_at-ledger.ensures))
+    words c.rank.result c.insert_at-ledger.result (sym c.find.ensures ∙ c.in-None.is) c.rank.ensures c.insert_at-ledger.ensures))
 
 capped-requires : tie.Need-capped-requires invariant-loop-i decreases-loop-i
 capped-requires c κs = search rules
@@ -210,17 +210,17 @@ record_abandonment_spec =
     offset_bounds-ledger-slot
     bounds-ledger-slot
     with_departed_by-requires
-    offset_bounds-ledger-slot-in-At
-    bounds-ledger-slot-in-At
-    loop-i-smaller-in-At
-    loop-i-preserved-in-At
+    offset_bounds-ledger-slot-in-Some
+    bounds-ledger-slot-in-Some
+    loop-i-smaller-in-Some
+    loop-i-preserved-in-Some
     enum_told-1
     offset_bounds-roster-end
     bounds-roster-end
     rank-requires
     insert_at-ledger-requires
-    offset_bounds-ledger-slot-in-Nothing
-    bounds-ledger-slot-in-Nothing
+    offset_bounds-ledger-slot-in-None
+    bounds-ledger-slot-in-None
     overflow_add-rebuilt
     loop-i-smaller
     loop-i-preserved

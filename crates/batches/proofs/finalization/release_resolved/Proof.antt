@@ -55,9 +55,9 @@ line : (c : tie.After-line_at-line invariant-loop-i decreases-loop-i) → IsLine
 line c = c.line_at-line.ensures
 
 -- its transaction was found
-there : (c : tie.In-At invariant-loop-i decreases-loop-i) → AtSlot c.loop-i.ledger (number_of c.line_at-line.result.tx) c.in-At.k
+there : (c : tie.In-Some invariant-loop-i decreases-loop-i) → AtSlot c.loop-i.ledger (number_of c.line_at-line.result.tx) c.in-Some.k
 there c =
-    found_at c.loop-i.ledger (stands c.before.before.before.before.before).so.held _ c.in-At.k (sym c.find.ensures ∙ c.in-At.is)
+    found_at c.loop-i.ledger (stands c.before.before.before.before.before).so.held _ c.in-Some.k (sym c.find.ensures ∙ c.in-Some.is)
 
 -- the entry that was found is left as it is
 leaves : (c : tie.After-rule invariant-loop-i decreases-loop-i) → (c.rule.result ≡ Skip) ⊎ (c.rule.result ≡ Refused) →
@@ -68,8 +68,8 @@ leaves c q =
     let o = c.loop-i in
     let a = c.args in
     goes_on c.refusal-refused.result a.ledger _ _ _ (stands c.before.before.before.before.before.before.before.before.before).none
-    (line_leave a.ledger a.words.now o.ledger o.released o.i (stands c.before.before.before.before.before.before.before.before.before).so _ (line c.before.before.before.before.before.before.before.before).next c.in-At.k _
-    (sym c.find.ensures ∙ c.in-At.is) (line c.before.before.before.before.before.before.before.before).coded c.rule.result c.rule.ensures q)
+    (line_leave a.ledger a.words.now o.ledger o.released o.i (stands c.before.before.before.before.before.before.before.before.before).so _ (line c.before.before.before.before.before.before.before.before).next c.in-Some.k _
+    (sym c.find.ensures ∙ c.in-Some.is) (line c.before.before.before.before.before.before.before.before).coded c.rule.result c.rule.ensures q)
 
 refusal-refused-requires : tie.Need-refusal-refused-requires invariant-loop-i decreases-loop-i
 refusal-refused-requires c κs = search rules
@@ -151,8 +151,8 @@ loop-i-preserved-in-Resolve c =
     let o = c.loop-i in
     let a = c.args in
     goes_on c.refusal-refused.result a.ledger _ _ _ (stands c.before.before.before.before.before.before.before.before.before.before.before).none
-    (line-resolve a.ledger a.words.now o.ledger o.released o.i (stands c.before.before.before.before.before.before.before.before.before.before.before).so _ (line c.before.before.before.before.before.before.before.before.before.before).next c.in-At.k _
-    (sym c.find.ensures ∙ c.in-At.is) (line c.before.before.before.before.before.before.before.before.before.before).coded c.rule.result c.rule.ensures c.in-Resolve.is c.resolve.result c.resolve.ensures)
+    (line-resolve a.ledger a.words.now o.ledger o.released o.i (stands c.before.before.before.before.before.before.before.before.before.before.before).so _ (line c.before.before.before.before.before.before.before.before.before.before).next c.in-Some.k _
+    (sym c.find.ensures ∙ c.in-Some.is) (line c.before.before.before.before.before.before.before.before.before.before).coded c.rule.result c.rule.ensures c.in-Resolve.is c.resolve.result c.resolve.ensures)
 
 enum_told-in-Release : tie.Need-enum_told-in-Release invariant-loop-i decreases-loop-i
 enum_told-in-Release c = search rules
@@ -175,8 +175,8 @@ loop-i-preserved-in-Release c =
     let o = c.loop-i in
     let a = c.args in
     goes_on c.refusal-refused.result a.ledger _ _ _ (stands c.before.before.before.before.before.before.before.before.before.before.before.before.before).none
-    (line-release a.ledger a.words.now o.ledger o.released o.i (stands c.before.before.before.before.before.before.before.before.before.before.before.before.before).so _ (line c.before.before.before.before.before.before.before.before.before.before.before.before).next c.in-At.k _
-    (sym c.find.ensures ∙ c.in-At.is) (line c.before.before.before.before.before.before.before.before.before.before.before.before).coded c.rule.result c.rule.ensures c.in-Release.is c.remove_at-ledger.result c.without-ledger.result c.remove_at-ledger.ensures c.without-ledger.ensures)
+    (line-release a.ledger a.words.now o.ledger o.released o.i (stands c.before.before.before.before.before.before.before.before.before.before.before.before.before).so _ (line c.before.before.before.before.before.before.before.before.before.before.before.before).next c.in-Some.k _
+    (sym c.find.ensures ∙ c.in-Some.is) (line c.before.before.before.before.before.before.before.before.before.before.before.before).coded c.rule.result c.rule.ensures c.in-Release.is c.remove_at-ledger.result c.without-ledger.result c.remove_at-ledger.ensures c.without-ledger.ensures)
 
 enum_told-in-Refused : tie.Need-enum_told-in-Refused invariant-loop-i decreases-loop-i
 enum_told-in-Refused c = search rules

@@ -1,5 +1,5 @@
 use Rattle.std.proofs.Common.{◌∙◌, ap, arith, rules, take, slice_set, ◌+◌}
-use Rattle.lists.proofs.Std.{put_in}
+use Rattle.lists.proofs.Std.{put_in, put_whole}
 use Rattle.lists.proofs.fronts.insert_at.Goals as goal
 
 pub returns : goal.returns
@@ -8,4 +8,5 @@ returns g c =
     record {
       size = search rules;
       front = ap (λ l. take (a.n + 1) (slice_set l a.k a.x)) c.copy_within.ensures.after ∙ put_in a.s.now a.n a.k a.x (omega arith) (omega arith);
+      whole = ap (λ l. slice_set l a.k a.x) c.copy_within.ensures.after ∙ put_whole a.s.now a.n a.k a.x (omega arith) (omega arith);
     }

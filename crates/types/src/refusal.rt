@@ -1,0 +1,28 @@
+// Why a call is turned away: the lines of the paper's table, each with its number there.
+ghost use Rattle.std.specs.Prelude.{◌≡◌};
+ghost use Rattle.types.specs.Refusals.{refusal_number};
+
+#[derive(Clone, Copy, PartialEq, Eq)]
+pub enum Refusal {
+    // Making: local is no shard, or a span is none.
+    NoLocal = 1,
+    NoSpan = 2,
+    // Reading: no time, no shard, or words and codes of no allowed form.
+    NoTime = 3,
+    NoShard = 4,
+    Malformed = 5,
+    // Taking in: no entry, absence or departure is free.
+    EntriesFull = 6,
+    AbsencesFull = 7,
+    DeparturesFull = 8,
+    // Writing: the lent list is too short.
+    ListShort = 9,
+}
+
+impl Refusal {
+    pub fn number(self) -> u64
+        ensures { result ≡ refusal_number self }
+    {
+        self as u64
+    }
+}
