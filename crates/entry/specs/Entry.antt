@@ -1,5 +1,5 @@
 -- What an entry's fields mean, as an entry of the plain ledger, and that they fit their arrays.
-use Rattle.std.specs.Prelude.{ℕ, ◌≤◌, ◌≡◌, Bool, List, map, ltb, length, take}
+use Rattle.std.specs.Prelude.{ℕ, ◌≤◌, ◌≡◌, Bool, false, List, map, ltb, length, take}
 use Rattle.lists.specs.Lists.{Every, Ascending, has, include, self, zip_by, cut}
 use Rattle.rules.specs.Plain as plain
 use Rattle.rules.specs.Words.{edge, with}
@@ -79,6 +79,15 @@ pub record Fits (e : Entry) : Type 0 where
   pub to : length e.to ≡ 32
   pub absences : length e.absences ≡ 8
   pub marks : length e.marks ≡ 8
+
+-- e holds no core, edges, absences and marks
+pub record Blank (e : Entry) : Type 0 where
+  pub fits : Fits e
+  pub core_len : e.core_len ≡ 0
+  pub edges_len : e.edges_len ≡ 0
+  pub absences_len : e.absences_len ≡ 0
+  pub marks_len : e.marks_len ≡ 0
+  pub returned : e.returned ≡ false
 
 -- e fits, and means this entry of the plain ledger
 pub record Means (p : plain.Entry) (e : Entry) : Type 0 where

@@ -8,7 +8,7 @@ ghost use Rattle.rules.specs.Numbers.{record_key, is_shard};
 ghost use Rattle.rules.specs.Plain.{part_number, is_core, is_leg, is_settling, is_covered, issued, issues, owes, remote, remainder, absence_key};
 ghost use Rattle.rules.specs.Entries.{certified, with_departed_by, with_part, with_marks, marked, read_absent, is_read, is_closed};
 ghost use Rattle.rules.specs.Good.{GoodEntry};
-ghost use Rattle.entry.specs.Entry.{plain_entry, plain_part, plain_absence, certificate_number, absence, absences_of, below, is_marked, Fits, Means, RoomForAbsence, RoomForMark};
+ghost use Rattle.entry.specs.Entry.{plain_entry, plain_part, plain_absence, certificate_number, absence, absences_of, below, is_marked, Fits, Blank, Means, RoomForAbsence, RoomForMark};
 
 use lists::fronts::insert_at;
 use lists::slices::contains;
@@ -42,8 +42,9 @@ pub struct Absence {
     pub key: u64,
 }
 
-// departed_by is shard 0 while no record names the entry. An edge's id, from-shard, kind (1 owed) and number of destinations stand at its
-// place in four arrays; the destinations lie joined in a fifth. Absences rise by shard and then key, marks rise.
+// departed_by is shard 0 while no record names the entry, as in the plain ledger. An edge's id, from-shard, kind (1 owed) and number of
+// destinations stand at its place in four arrays; the destinations lie joined in a fifth. Absences rise by shard and then key, marks rise.
+// There is no heap: each list stands in an array of fixed size with its length beside it, as the plain ledger's words lie.
 #[derive(Clone, Copy)]
 pub struct Entry {
     pub tx: Transaction,
@@ -140,7 +141,7 @@ impl TryFrom<u64> for Certificate {
 impl Entry {
     // What a place of the arena holds before an entry is put there.
     pub fn blank() -> Entry
-        ensures { Fits result }
+        ensures { Blank result }
     {
         Entry {
             tx: Transaction(0),

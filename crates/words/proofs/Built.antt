@@ -2,7 +2,7 @@
 -- Assumes nothing.
 use Prim.Native.Nat.{ℕ, ◌+◌}
 use mathlib.Core.Path.{◌≡◌, sym, ap, ◌∙◌}
-use mathlib.Core.Bool.{true, false, cond}
+use mathlib.Core.Bool.{false, cond}
 use mathlib.Core.List.{List, []}
 use native.Mathlib.Omega.{arith}
 use lib.Dec.{eqb}
@@ -44,17 +44,6 @@ whole-terms ws = λ i. record {
   core_shards = [];
   edges = [];
 }
-
--- the part of an admitted entry, by the tests
-module _ (local : ℕ) (ws : List ℕ) where
-  pub whole_part : decomposed ws ≡ 0 → whole ≡ part_in local ws
-  whole_part d = rw (eq-eqb (decomposed ws) 0 d)
-
-  pub core-part : (decomposed ws ≡ 0 → ⊥) → has self local (core_in ws) ≡ true → core ≡ part_in local ws
-  core-part d c = rw (ne_eqb (decomposed ws) 0 d, c)
-
-  pub leg-part : (decomposed ws ≡ 0 → ⊥) → has self local (core_in ws) ≡ false → leg ≡ part_in local ws
-  leg-part d c = rw (ne_eqb (decomposed ws) 0 d, c)
 
 -- an admitted entry, from the entry x that has its figures, routes and part, but no core and no edges
 module _ (local : ℕ) (ws r : List ℕ) (q : Part) (x : declared.Entry) (h : e.Means (bare_entry q 3 ws r 0 0) x) (t : r ≡ part (routes_at ws) (route_count ws) ws) where

@@ -9,7 +9,7 @@ use native.Mathlib.Omega.{arith}
 use lib.Dec.{eqb, leb}
 use lib.ListN.{length, get_or, take, drop}
 use lib.Seq.{drop-drop, get_or-drop}
-use borrow.Author.Tests.{leb-true, eqb-true, le-leb}
+use borrow.Author.Tests.{leb-true, eqb-true}
 use Rattle.lists.specs.Lists.{all, total, self, part, cut}
 use Rattle.lists.proofs.Tests.{and_true}
 use Rattle.lists.proofs.Keep.{each_of}
@@ -35,11 +35,11 @@ recorded ws h =
       exact = eqb-true (length ws) (reaches_at ws + total self (reach_sizes ws)) t.1.1.1.0;
     }
 
-pub the_length : (ws m : List ℕ) (at n : ℕ) → 2 ≤ length ws → group_count ws ≤ 48 → m ≡ reach_sizes ws → at ≡ reaches_at ws → n ≡ total self m → within 8 m ≡ true →
-    eqb (length ws) (at + n) ≡ record_formed ws
+-- the tests in the code's words
+pub record_is : (ws : List ℕ) → record_formed ws ≡
+    leb 2 (length ws) && (leb (word 0 ws) 48 && (all (λ n. leb n 8) (part 2 (word 0 ws) ws) && eqb (length ws) (2 + word 0 ws + 5 * word 0 ws + total self (part 2 (word 0 ws) ws))))
 unfolding record_formed
-the_length ws m at n h k e a t w =
-    rw (a, t, e, le-leb 2 (length ws) h, le-leb (group_count ws) 48 k, rw e at w) (sym (and_true (eqb (length ws) (reaches_at ws + total self (reach_sizes ws)))))
+record_is ws = rw (and_true (eqb (length ws) (reaches_at ws + total self (reach_sizes ws))))
 
 -- as many reaches as groups, where these have room
 pub reaches_length : (ws : List ℕ) → reaches_at ws ≤ length ws → length (reach_sizes ws) ≡ group_count ws
@@ -136,5 +136,5 @@ module _ (ws : List ℕ) (f : record_formed ws ≡ true) (i p : ℕ) (h : i < gr
   pub timed_miss : figures_timed p ws ≡ false → all timed (drop i (record_groups ws)) ≡ false
   timed_miss t = timed_more ∙ ap (λ b. b && all timed (drop (i + 1) (record_groups ws))) t
 
-pub timed-end : (ws : List ℕ) (f : record_formed ws ≡ true) (i : ℕ) → group_count ws ≤ i → all timed (drop i (record_groups ws)) ≡ true
-timed-end ws f i h = all_end timed (record_groups ws) i (omega (arith, groups_length ws f))
+pub timed_end : (ws : List ℕ) (f : record_formed ws ≡ true) (i : ℕ) → group_count ws ≤ i → all timed (drop i (record_groups ws)) ≡ true
+timed_end ws f i h = all_end timed (record_groups ws) i (omega (arith, groups_length ws f))

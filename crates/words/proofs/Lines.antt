@@ -5,9 +5,9 @@ use mathlib.Core.Path.{◌≡◌, sym, ap, ◌∙◌}
 use mathlib.Core.Bool.{true, ◌&&◌}
 use mathlib.Core.List.{List, ◌∷◌}
 use native.Mathlib.Omega.{arith}
-use lib.Dec.{leb}
+use lib.Dec.{eqb, leb}
 use lib.ListN.{length, drop}
-use borrow.Author.Tests.{leb-true, eqb-true, le-leb, eq-eqb}
+use borrow.Author.Tests.{leb-true, eqb-true}
 use Rattle.lists.specs.Lists.{all, zip_by, part}
 use Rattle.lists.proofs.Tests.{and_true}
 use Rattle.lists.proofs.Keep.{each_of}
@@ -31,15 +31,14 @@ finalized ws h =
       exact = omega (arith, eqb-true (length ws) (2 + 1 * line_count ws + line_count ws + 1 * deciding_count ws) t.1.1.1.0);
     }
 
-pub the_decisions : (ws m : List ℕ) → 2 ≤ length ws → line_count ws ≤ 48 → deciding_count ws ≤ 48 →
-    length ws ≡ 2 + line_count ws + line_count ws + deciding_count ws → m ≡ part (2 + line_count ws) (line_count ws) ws →
-    all (λ d. leb 1 d && leb d 3) m ≡ finalization_formed ws
+-- the tests in the code's words
+pub finalization_is : (ws : List ℕ) → finalization_formed ws ≡
+    leb 2 (length ws) && (leb (word 0 ws) 48 && (leb (word 1 ws) 48 && (eqb (length ws) (2 + word 0 ws + word 0 ws + word 1 ws) && all (λ d. leb 1 d && leb d 3) (part (2 + word 0 ws) (word 0 ws) ws))))
 unfolding finalization_formed
-the_decisions ws m h n k e q =
-    let one : 1 * line_count ws ≡ line_count ws = omega arith in
-    let x : length ws ≡ 2 + line_count ws + line_count ws + 1 * deciding_count ws = omega arith in
-    rw (q, one, le-leb 2 (length ws) h, le-leb (line_count ws) 48 n, le-leb (deciding_count ws) 48 k, eq-eqb (length ws) (2 + line_count ws + line_count ws + 1 * deciding_count ws) x)
-    (sym (and_true (all (λ d. leb 1 d && leb d 3) (part (2 + line_count ws) (line_count ws) ws))))
+finalization_is ws =
+    let n : 1 * line_count ws ≡ line_count ws = omega arith in
+    let m : 1 * deciding_count ws ≡ deciding_count ws = omega arith in
+    rw (n, m, and_true (all (λ d. leb 1 d && leb d 3) (part (2 + line_count ws) (line_count ws) ws)))
 
 abbrev pub line_of : ℕ → ℕ → Line
 line_of t d = record { transaction = t; decision = d }
@@ -56,9 +55,9 @@ module _ (ws : List ℕ) where
   unfolding finalization_lines
   as_parts = rw (once (line_count ws))
 
-  pub deciding-is : deciding ws ≡ part (2 + line_count ws + line_count ws) (deciding_count ws) ws
+  pub deciding_is : deciding ws ≡ part (2 + line_count ws + line_count ws) (deciding_count ws) ws
   unfolding deciding
-  deciding-is = rw (once (line_count ws), once (deciding_count ws))
+  deciding_is = rw (once (line_count ws), once (deciding_count ws))
 
   module _ (f : finalization_formed ws ≡ true) where
     transactions-many : length (part 2 (line_count ws) ws) ≡ line_count ws
@@ -81,8 +80,8 @@ module _ (ws : List ℕ) where
         let all = rw (once n) at (each_of (finalization_tests ws) f).1.1.1.1.0 in
         rw (part_at (2 + n) n i ws h) at (all-at (λ d. leb 1 d && leb d 3) 0 (part (2 + n) n ws) i (omega (arith, decisions-many)) all)
 
-    pub line-at : (i : ℕ) → i < line_count ws → drop i (finalization_lines ws) ≡ line_at ws i ∷ drop (i + 1) (finalization_lines ws)
-    line-at i h =
+    pub line_next : (i : ℕ) → i < line_count ws → drop i (finalization_lines ws) ≡ line_at ws i ∷ drop (i + 1) (finalization_lines ws)
+    line_next i h =
         let n = line_count ws in
         let a = part_more 2 n i ws (omega (arith, (finalized ws f).exact)) h in
         let b = part_more (2 + n) n i ws (omega (arith, (finalized ws f).exact)) h in

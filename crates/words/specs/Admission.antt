@@ -1,8 +1,8 @@
 -- The tests of an admission's form in four rows, in their order, and what the first of them allow to read.
-use Rattle.std.specs.Prelude.{ℕ, ◌+◌, ◌≤◌, Bool, List, [], ◌∷◌, eqb, leb, length}
-use Rattle.lists.specs.Lists.{all, ascending, total, self}
+use Rattle.std.specs.Prelude.{ℕ, ◌+◌, ◌≤◌, ◌≡◌, Bool, List, [], ◌∷◌, eqb, leb, length, drop}
+use Rattle.lists.specs.Lists.{all, ascending, total, self, part}
 use Rattle.rules.specs.Numbers.{max_routes, max_core, max_edges, max_destinations}
-use Rattle.rules.specs.Words.{within, route_count, core_count, edge_count, decomposed, routes_at, destinations_at, core_in, kinds, sizes, destinations}
+use Rattle.rules.specs.Words.{within, edges_at, route_count, core_count, edge_count, decomposed, routes_at, destinations_at, core_in, froms, kinds, sizes, destinations}
 
 abbrev pub count_tests : List ℕ → List Bool
 count_tests ws =
@@ -32,3 +32,14 @@ pub record Counted (ws : List ℕ) : Type 0 where
 pub record Sized (ws : List ℕ) : Type 0 where
   pub counted : Counted ws
   pub room : destinations_at ws ≤ length ws
+
+-- words taken apart: routes, core shards, the edges' ids, from-shards, kinds and sizes, and what is behind them
+pub record Split (ws r c i f k n t : List ℕ) : Type 0 where
+  pub sized : Sized ws
+  pub routes : r ≡ part (routes_at ws) (route_count ws) ws
+  pub core : c ≡ core_in ws
+  pub ids : i ≡ part (edges_at ws) (edge_count ws) ws
+  pub froms : f ≡ froms ws
+  pub kinds : k ≡ kinds ws
+  pub sizes : n ≡ sizes ws
+  pub to : t ≡ drop (destinations_at ws) ws

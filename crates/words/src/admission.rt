@@ -1,113 +1,109 @@
 // Admission: r, c, e; transaction, at, end, anchor, charge, decomposed; r routes; c core shards; e ids, e from-shards, e kinds,
 // e destination sizes; destinations joined.
-ghost use Rattle.std.specs.Prelude.{◌≡◌, true};
-ghost use Rattle.lists.specs.Lists.{all_of};
-ghost use Rattle.rules.specs.Words.{admission_terms, admission_formed, admission_timed, admission_placed};
+ghost use Rattle.std.specs.Prelude.{◌≡◌, true, false, MatchOption, eqb};
+ghost use Rattle.rules.specs.Words.{decomposed, admission_terms, admission_formed, admission_timed, admission_placed};
+ghost use Rattle.rules.specs.Entries.{whole_terms, admitted};
+ghost use Rattle.entry.specs.Entry.{plain_part, plain_entry, Fits, Means};
 ghost use Rattle.types.specs.Transactions.{number_of};
-ghost use Rattle.words.specs.Admission.{count_tests, size_tests, code_tests, order_tests, Counted, Sized};
+ghost use Rattle.words.specs.Taken.{part_in, with_terms};
 
-use crate::layout::{core_in, destinations_at, destinations_in, froms_in, kinds_in, sizes_in};
+use crate::layout::Parts;
 use crate::shards::all_shards;
-use lists::slices::{all_within, lists_rise, rises, size, total, word_at};
-use types::{Transaction, is_time};
+use crate::taken::bare;
+use entry::{Certificate, Entry, Part};
+use lists::slices::{bytes, contains, front, word_at};
+use types::{Shard, Transaction, is_time};
 
-// The sizes that come first are within their limits.
-fn counted(words: &[u64]) -> bool
-    ensures { result ≡ all_of (count_tests words.now) }
-{
-    if words.len() < 9 {
-        return false;
-    }
-    if 8 < words[0] {
-        return false;
-    }
-    if 8 < words[1] {
-        return false;
-    }
-    words[2] <= 8
+// The words of an admission that is well formed.
+#[derive(Clone, Copy)]
+pub struct Admission<'a> {
+    parts: Parts<'a>,
+    pub ghost formed: { admission_formed parts.words.now ≡ true },
 }
 
-// Each list of destinations is within its limit, and the length is what the sizes require.
-fn sized(words: &[u64]) -> bool
-    requires { Counted words.now }
-    ensures { result ≡ all_of (size_tests words.now) }
-{
-    let at = destinations_at(words);
-    if words.len() < at {
-        return false;
+#[tactic(auto, unfolding(rules::specs::Words::admission_timed, rules::specs::Words::admission_placed, rules::specs::Words::admission_terms))]
+impl<'a> Admission<'a> {
+    pub fn read(words: &'a [u64]) -> Option<Admission<'a>>
+        ensures { MatchOption result (admission_formed words.now ≡ false) (λ a. a.parts.words.now ≡ words.now) }
+    {
+        let parts = Parts::of(words)?;
+        if parts.is_formed() {
+            Some(Admission { parts })
+        } else {
+            None
+        }
     }
-    let sizes = sizes_in(words);
-    if all_within(sizes, 4) {
-        words.len() == at + size(total(sizes))
-    } else {
-        false
-    }
-}
 
-// decomposed is 0 or 1, and so is each kind.
-fn coded(words: &[u64]) -> bool
-    requires { Sized words.now }
-    ensures { result ≡ all_of (code_tests words.now) }
-{
-    if 1 < words[8] {
-        return false;
+    pub fn is_timed(self) -> bool
+        ensures { result ≡ admission_timed self.entry.parts.words.now }
+    {
+        let words = self.parts.words;
+        is_time(word_at(words, 4)) && is_time(word_at(words, 5)) && is_time(word_at(words, 6))
     }
-    all_within(kinds_in(words), 1)
-}
 
-// The core shards rise, and so do the destinations of each edge.
-fn ordered(words: &[u64]) -> bool
-    requires { Sized words.now × (all_of (size_tests words.now) ≡ true) }
-    ensures { result ≡ all_of (order_tests words.now) }
-{
-    if rises(core_in(words)) {
-        lists_rise(sizes_in(words), destinations_in(words))
-    } else {
-        false
+    pub fn is_placed(self) -> bool
+        ensures { result ≡ admission_placed self.entry.parts.words.now }
+    {
+        let p = self.parts;
+        all_shards(p.core) && all_shards(p.froms) && all_shards(p.destinations)
     }
-}
 
-pub fn admission_formed(words: &[u64]) -> bool
-    ensures { result ≡ admission_formed words.now }
-{
-    if !counted(words) {
-        return false;
+    pub fn transaction(self) -> Transaction
+        ensures { number_of result ≡ (admission_terms self.entry.parts.words.now).transaction }
+    {
+        Transaction::read(self.parts.words, 3)
     }
-    if !sized(words) {
-        return false;
-    }
-    if coded(words) { ordered(words) } else { false }
-}
 
-pub fn admission_timed(words: &[u64]) -> bool
-    ensures { result ≡ admission_timed words.now }
-{
-    if !is_time(word_at(words, 4)) {
-        return false;
+    // Whether it is not decomposed.
+    fn is_whole(self) -> bool
+        ensures { result ≡ eqb (decomposed self.entry.parts.words.now) 0 }
+    {
+        word_at(self.parts.words, 8) == 0
     }
-    if is_time(word_at(words, 5)) {
-        is_time(word_at(words, 6))
-    } else {
-        false
-    }
-}
 
-pub fn admission_placed(words: &[u64]) -> bool
-    requires { admission_formed words.now ≡ true }
-    ensures { result ≡ admission_placed words.now }
-{
-    if !all_shards(core_in(words)) {
-        return false;
+    // Whole unless decomposed; then core if local is a core shard, else leg.
+    fn part(self, local: Shard) -> Part
+        ensures { plain_part result ≡ part_in local.0 self.entry.parts.words.now }
+    {
+        if self.is_whole() {
+            Part::Whole
+        } else if contains(self.parts.core, local.0) {
+            Part::Core
+        } else {
+            Part::Leg
+        }
     }
-    if all_shards(froms_in(words)) {
-        all_shards(destinations_in(words))
-    } else {
-        false
-    }
-}
 
-pub fn admission_transaction(words: &[u64]) -> Transaction
-    ensures { number_of result ≡ (admission_terms words.now).transaction }
-{
-    Transaction::read(words, 3)
+    // The entry with the core shards and the edges.
+    fn with_edges(self, e: Entry) -> Entry
+        requires { Fits e × ((plain_entry e).terms ≡ whole_terms (admission_terms self.parts.words.now)) }
+        ensures { Means (with_terms (admission_terms self.entry.parts.words.now) (plain_entry e)) result }
+    {
+        let p = self.parts;
+        Entry {
+            core_len: p.core.len() as u8,
+            edges_len: p.ids.len() as u8,
+            core: front(p.core),
+            ids: front(p.ids),
+            froms: front(p.froms),
+            kinds: bytes(p.kinds),
+            sizes: bytes(p.sizes),
+            to: front(p.destinations),
+            ..e
+        }
+    }
+
+    // The entry that it takes in.
+    pub fn entry(self, local: Shard) -> Entry
+        ensures { Means (admitted local.0 self.entry.parts.words.now) result }
+    {
+        let p = self.parts;
+        let part = self.part(local);
+        let e = bare(p.words, 3, p.routes, part, Certificate::Missing, Shard(0));
+        if self.is_whole() {
+            e
+        } else {
+            self.with_edges(e)
+        }
+    }
 }

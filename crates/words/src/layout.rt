@@ -1,91 +1,63 @@
-// Where the parts of an admission's words start, and the parts.
-ghost use Rattle.std.specs.Prelude.{◌≡◌, drop};
-ghost use Rattle.lists.specs.Lists.{part};
-ghost use Rattle.rules.specs.Words.{route_count, routes_at, edge_count, core_at, edges_at, destinations_at, core_in, froms, kinds, sizes};
-ghost use Rattle.words.specs.Admission.{Counted, Sized};
+// The parts of an admission's words.
+ghost use Rattle.std.specs.Prelude.{◌≡◌, false, MatchOption};
+ghost use Rattle.rules.specs.Words.{admission_formed};
+ghost use Rattle.words.specs.Admission.{Split};
 
-use lists::slices::{part, rest, size_at};
+use lists::slices::{all_within, lists_rise, part, rises, size_at, total};
 
-// Where the core shards, the edges and the destinations start.
-pub fn core_at(words: &[u64]) -> usize
-    requires { Counted words.now }
-    ensures { result ≡ core_at words.now }
-{
-    9 + size_at(words, 0)
+// How many of each there are is told before; only of the destinations it is not yet known whether they are as many as the sizes say.
+#[derive(Clone, Copy)]
+pub struct Parts<'a> {
+    pub words: &'a [u64],
+    pub routes: &'a [u64],
+    pub core: &'a [u64],
+    pub ids: &'a [u64],
+    pub froms: &'a [u64],
+    pub kinds: &'a [u64],
+    pub sizes: &'a [u64],
+    pub destinations: &'a [u64],
+    pub ghost split: { Split words.now routes.now core.now ids.now froms.now kinds.now sizes.now destinations.now },
 }
 
-pub fn edges_at(words: &[u64]) -> usize
-    requires { Counted words.now }
-    ensures { result ≡ edges_at words.now }
-{
-    core_at(words) + size_at(words, 1)
-}
+impl<'a> Parts<'a> {
+    #[tactic(auto, using(crate::proofs::Forms::admission_is, crate::proofs::Forms::unreached))]
+    // None where the sizes that come first are not there or over their limits, or the words do not reach to the destinations.
+    pub fn of(words: &'a [u64]) -> Option<Parts<'a>>
+        ensures { MatchOption result (admission_formed words.now ≡ false) (λ p. p.words.now ≡ words.now) }
+    {
+        let r = size_at(words, 0);
+        let c = size_at(words, 1);
+        let e = size_at(words, 2);
+        if words.len() < 9 || 8 < r || 8 < c || 8 < e {
+            return None;
+        }
+        let core_at = 9 + r;
+        let edges_at = core_at + c;
+        let at = edges_at + 4 * e;
+        if words.len() < at {
+            return None;
+        }
+        Some(Parts {
+            words,
+            routes: part(words, 9, r),
+            core: part(words, core_at, c),
+            ids: part(words, edges_at, e),
+            froms: part(words, edges_at + e, e),
+            kinds: part(words, edges_at + 2 * e, e),
+            sizes: part(words, edges_at + 3 * e, e),
+            destinations: &words[at..],
+        })
+    }
 
-pub fn destinations_at(words: &[u64]) -> usize
-    requires { Counted words.now }
-    ensures { result ≡ destinations_at words.now }
-{
-    edges_at(words) + 4 * size_at(words, 2)
-}
-
-// The parts.
-pub fn routes_in(words: &[u64]) -> &[u64]
-    requires { Sized words.now }
-    ensures { result.now ≡ part (routes_at words.now) (route_count words.now) words.now }
-{
-    let n = size_at(words, 0);
-    part(words, 9, n)
-}
-
-pub fn core_in(words: &[u64]) -> &[u64]
-    requires { Sized words.now }
-    ensures { result.now ≡ core_in words.now }
-{
-    let at = core_at(words);
-    let n = size_at(words, 1);
-    part(words, at, n)
-}
-
-pub fn ids_in(words: &[u64]) -> &[u64]
-    requires { Sized words.now }
-    ensures { result.now ≡ part (edges_at words.now) (edge_count words.now) words.now }
-{
-    let at = edges_at(words);
-    let n = size_at(words, 2);
-    part(words, at, n)
-}
-
-pub fn froms_in(words: &[u64]) -> &[u64]
-    requires { Sized words.now }
-    ensures { result.now ≡ froms words.now }
-{
-    let at = edges_at(words);
-    let n = size_at(words, 2);
-    part(words, at + n, n)
-}
-
-pub fn kinds_in(words: &[u64]) -> &[u64]
-    requires { Sized words.now }
-    ensures { result.now ≡ kinds words.now }
-{
-    let at = edges_at(words);
-    let n = size_at(words, 2);
-    part(words, at + 2 * n, n)
-}
-
-pub fn sizes_in(words: &[u64]) -> &[u64]
-    requires { Sized words.now }
-    ensures { result.now ≡ sizes words.now }
-{
-    let at = edges_at(words);
-    let n = size_at(words, 2);
-    part(words, at + 3 * n, n)
-}
-
-pub fn destinations_in(words: &[u64]) -> &[u64]
-    requires { Sized words.now }
-    ensures { result.now ≡ drop (destinations_at words.now) words.now }
-{
-    let at = destinations_at(words);
-    rest(words, at)
+    // The sizes are within their limit, the destinations are as many as they say, decomposed and each kind are 0 or 1, and the lists rise.
+    pub fn is_formed(self) -> bool
+        ensures { result ≡ admission_formed self.entry.words.now }
+    {
+        all_within(self.sizes, 4)
+            && self.destinations.len() == total(self.sizes) as usize
+            && self.words[8] <= 1
+            && all_within(self.kinds, 1)
+            && rises(self.core)
+            && lists_rise(self.sizes, self.destinations)
+    }
 }

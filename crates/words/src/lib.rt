@@ -4,7 +4,7 @@
 
 pub mod admission;
 pub mod finalization;
-pub mod layout;
+mod layout;
 pub mod record;
 mod shards;
-pub mod taken;
+mod taken;

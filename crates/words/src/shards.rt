@@ -8,12 +8,5 @@ use types::is_shard;
 pub fn all_shards(s: &[u64]) -> bool
     ensures { result ≡ all is_shard s.now }
 {
-    let mut i: usize = 0;
-    while i < s.len() {
-        if !is_shard(s[i]) {
-            return false;
-        }
-        i += 1;
-    }
-    true
+    s.iter().all(|n| is_shard(*n))
 }
