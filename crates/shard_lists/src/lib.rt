@@ -20,6 +20,7 @@ ghost use Rattle.types.specs.Transactions.{number_of};
 
 use entry::{Entry, is_issue};
 use ledger::Ledger;
+use lists::slices::part;
 use readings::reply::list;
 use set::Set;
 use store::departures::{Departure, Departures};
@@ -69,11 +70,11 @@ fn destinations(e: Entry, local: Shard, r: RecordKey) -> Set
     let mut shards = Set::new();
     let mut start = 0;
     for i in 0..e.edges_len as usize {
-        let end = start + e.sizes[i] as usize;
+        let size = e.sizes[i] as usize;
         if is_issue(Shard(e.froms[i]), e.ids[i], local, r) {
-            shards.include_all(&e.to[start..end]);
+            shards.include_all(part(&e.to, start, size));
         }
-        start = end;
+        start += size;
     }
     shards
 }

@@ -1,6 +1,6 @@
 -- The shards gathered are written out; a depth over 32 is refused first (`too_deep`, which the check is told of beside the function), and a
 -- transaction not owed has none.
-use Rattle.std.proofs.Common.{◌≡◌, arith, le-leb}
+use Rattle.std.proofs.Common.{arith, le-leb}
 use Rattle.types.specs.Transactions.{number_of}
 use Rattle.ledger.specs.Contents.{contents}
 use Rattle.ledger.proofs.Places.{owed_in}

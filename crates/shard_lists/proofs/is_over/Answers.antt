@@ -1,8 +1,8 @@
 -- The cut is after the anchor for all routes or for none.
-use Rattle.std.proofs.Common.{◌≡◌, ◌∙◌, sym, ltb, false, true, arith, rules, tests}
+use Rattle.std.proofs.Common.{◌≡◌, ◌∙◌, sym, ltb, false, true, rules, tests}
 use Rattle.lists.specs.Lists.{any}
 use Rattle.lists.proofs.Tests.{and_true, and_false}
-use Rattle.lists.proofs.Sets.{any_and}
+use Rattle.lists.proofs.Keep.{any_and}
 use Rattle.rules.specs.Numbers.{owns}
 use Rattle.shard_lists.proofs.is_over.Goals as goal
 

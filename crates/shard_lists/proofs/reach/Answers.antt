@@ -1,5 +1,5 @@
 -- The routes are written out as they lie in the entry; a transaction not owed has none.
-use Rattle.std.proofs.Common.{refl, sym}
+use Rattle.std.proofs.Common.{refl}
 use Rattle.rules.specs.Plain as plain
 use Rattle.types.specs.Transactions.{number_of}
 use Rattle.entry.specs.Entry.{plain_entry}

@@ -1,5 +1,5 @@
 -- One more has room, and with it the numbers still rise.
-use Rattle.std.proofs.Common.{◌≡◌, ◌∙◌, arith}
+use Rattle.std.proofs.Common.{◌∙◌, arith}
 use Rattle.lists.specs.Lists.{self}
 use Rattle.lists.proofs.Order.{length-include, ascending-include}
 use Rattle.shard_lists.specs.Sets.{front}
