@@ -1,24 +1,15 @@
--- Which rule is the first that fits, by the tests in turn, and what the verdict by a rule says. A time and a span fit a word together.
+-- Which rule is the first that fits, by the tests in turn, and what the verdict by a rule says.
 -- Assumes nothing.
-use Prim.Native.Nat.{ℕ, ◌+◌, ◌^◌, ◌<◌}
+use Prim.Native.Nat.{ℕ, ◌+◌}
 use mathlib.Core.Path.{◌≡◌, refl, sym, ap, ◌∙◌}
 use mathlib.Core.Bool.{Bool, true, false, cond, ◌&&◌, ◌||◌}
-use native.Mathlib.Omega.{arith}
-use borrow.Author.Tests.{ltb-true, leb-true}
-use lib.Dec.{ltb, leb}
+use lib.Dec.{ltb}
 use Rattle.lists.specs.Lists.{filled}
-use Rattle.lists.proofs.Tests.{and_right, and_false}
-use Rattle.rules.specs.Numbers.{is_time, is_span}
+use Rattle.lists.proofs.Tests.{and_false}
 use Rattle.rules.specs.Plain.{Entry, Plain, is_core, is_settling, is_named, remote}
 use Rattle.rules.specs.Prune.{Rule, awaiting, settling, recorded, answering, expiring, rule_of, stands, stands_by, is_reported, covered_by}
 use Rattle.judge.specs.Answers.{is_answerable}
 use Rattle.judge.specs.Verdict.{Says, reported_unless, quiet_unless, by_routes}
-
-pub sum_fits : (a s : ℕ) → is_time a ≡ true → is_span s ≡ true → a + s < 2 ^ 64
-sum_fits a s t h =
-    let small = ltb-true a (2 ^ 48) t in
-    let short = leb-true s (2 ^ 40) (and_right (leb 1 s) (leb s (2 ^ 40)) h) in
-    omega arith
 
 -- the tests of rules 1 to 4
 abbrev pub first_test : Entry → Bool

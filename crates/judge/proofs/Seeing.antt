@@ -1,58 +1,44 @@
 -- What a view shows at a place, the ownership of a route told by one shift, and the departure that counts, found downwards.
 -- Assumes nothing.
-use Prim.Native.Nat.{ℕ, ◌+◌, ◌-◌, ◌/◌, ◌^◌, ◌≤◌, ◌<◌}
-use mathlib.Core.Path.{◌≡◌, refl, sym, ap, ◌∙◌}
+use Prim.Native.Nat.{ℕ, suc, ◌+◌, ◌-◌, ◌/◌, ◌^◌, ◌≤◌, ◌<◌}
+use mathlib.Core.Path.{◌≡◌, refl, sym, ap, ap₂, subst, ◌∙◌}
 use mathlib.Core.Bool.{Bool, true, false, cond, ◌&&◌, ◌||◌, true≢false, false≢true}
-use mathlib.Core.List.{List, ◌∷◌}
+use mathlib.Core.List.{List, [], ◌∷◌}
 use mathlib.Core.Option.{Option, none, some}
 use native.Mathlib.Omega.{arith}
 use borrow.Author.Tests.{ltb-true, lt-ltb, leb-true, eq-eqb, ne_eqb}
 use lib.Dec.{eqb, ltb, leb}
-use lib.ListN.{length, drop, get_or, drop_of_length-le}
+use lib.ListN.{length, take, drop, get_or}
+use lib.Seq.{length-take-le, get_or-take}
 use Rattle.lists.specs.Lists.{keep, any}
-use Rattle.lists.proofs.Counting.{front_at, front_length, rest_down, any-from, any_past}
+use Rattle.lists.proofs.Counting.{rest_down}
 use Rattle.lists.proofs.Picked.{any-kept}
 use Rattle.lists.proofs.Distinct.{every_at}
 use Rattle.lists.proofs.Tests.{or_left, and_left, and_both, and_false}
 use Rattle.lists.proofs.Keep.{any_same}
 use Rattle.rules.specs.Numbers.{owns, is_shard}
-use Rattle.rules.specs.Plain.{is_remote, Departure, Entry, shard_of, is_named}
+use Rattle.rules.specs.Plain.{is_remote, Departure, Entry, is_named}
 use Rattle.rules.specs.Prune.{readable, counting, earlier, counts_before, answerable, is_of_departed_by, holds}
 use Rattle.rules.specs.Good.{GoodDeparture}
 use Rattle.types.proofs.Bits.{topped, owned}
 use Rattle.judge.specs.Answers.{Asks, is_answerable, covers_some, named_readable}
-use Rattle.judge.specs.View.{Shows, cut_of, zeros_of}
+use Rattle.judge.specs.View.{Sees, Shows, zeros_of}
+use Rattle.judge.specs.declared.views.Seen.{Seen}
 use Rattle.judge.specs.declared.views.View.{View}
 
--- two tests joined: the second is the answer where the first passed, else the first
-pub and_then : (a b x y : Bool) → x ≡ true → x ≡ a → y ≡ b → y ≡ a && b
-and_then a b x y t e f = f ∙ ap (λ c. c && b) (sym t ∙ e)
+nobody : Departure
+nobody = record { shard = 0; cut = 0; stamp = none }
 
-pub and_not : (a b x : Bool) → x ≡ false → x ≡ a → x ≡ a && b
-and_not a b x t e = t ∙ ap (λ c. c && b) (sym t ∙ e)
-
--- the departure at a place of the view
-pub record Sees (v : View) (now j : ℕ) (d : Departure) : Type 0 where
-  pub shard : get_or v.shards j 0 ≡ d.shard
-  pub zeros : get_or v.zeros j 0 ≡ zeros_of d
-  pub cut : get_or v.cuts j 0 ≡ d.cut
-  pub readable : (b : Bool) → get_or v.readable j b ≡ readable now d
-  pub good : GoodDeparture d
+unseen : Seen
+unseen = record { shard = record { 0 = 0 }; zeros = 0; cut = record { 0 = 0 }; is_readable = false; within = omega arith }
 
 module _ (ds : List Departure) (now : ℕ) (v : View) (s : Shows ds now v) where
-  pub count : length ds ≡ v.len
-  count = front_length shard_of v.shards v.len ds (omega (arith, s.sized.room, s.sized.shard_length)) s.shards
+  good-at : (j : ℕ) → j < v.len → GoodDeparture (get_or ds j nobody)
+  good-at j h = every_at GoodDeparture nobody j ds (omega (arith, s.count)) s.good
 
-  pub sees : (j : ℕ) (d : Departure) → j < v.len → Sees v now j (get_or ds j d)
-  sees j d h =
-      let z = s.sized in
-      record {
-        shard = front_at shard_of v.shards v.len ds (omega (arith, z.room, z.shard_length)) s.shards j 0 d h;
-        zeros = front_at zeros_of v.zeros v.len ds (omega (arith, z.room, z.zero_length)) s.zeros j 0 d h;
-        cut = front_at cut_of v.cuts v.len ds (omega (arith, z.room, z.cut_length)) s.cuts j 0 d h;
-        readable = λ b. front_at (readable now) v.readable v.len ds (omega (arith, z.room, z.readable_length)) s.readable j b d h;
-        good = every_at GoodDeparture d j ds (omega (arith, count)) s.good;
-      }
+  -- the departure at a place of the view
+  seen_at : (j : ℕ) (x : Seen) → j < v.len → x ≡ get_or v.items j x → Sees now (get_or ds j nobody) x
+  seen_at j x h e = subst (λ y. Sees now (get_or ds j nobody) y) (sym e) (s.seen j nobody x h)
 
 -- over a route, by the anchor alone
 abbrev pub over_at : ℕ → ℕ → Departure → Bool
@@ -125,35 +111,28 @@ said_covers local routes d e r anchor shard zeros cut good es ez ec asks h =
     ∙ sym (any-kept (λ x. over_at anchor x d) (is_remote local) routes)
     ∙ rw (asks.anchor, asks.routes)
 
-nobody : Departure
-nobody = record { shard = 0; cut = 0; stamp = none }
-
 -- one departure further down: it counts, or the best so far stays
 module _ (ds : List Departure) (now : ℕ) (v : View) (s : Shows ds now v) (anchor route j best lowest : ℕ) (answers : Bool) (p : 0 < j) (k : j ≤ v.len)
-    (h : Best now (counting (keep (over_at anchor route) (drop j ds))) best lowest answers) where
-  abbrev at_place : ℕ → ℕ → Bool
-  at_place shard cut = over_by anchor route shard (get_or v.zeros (j - 1) 0) cut
-
-  pub turn_won : (b : Bool) → at_place (get_or v.shards (j - 1) 0) (get_or v.cuts (j - 1) 0) && wins (get_or v.cuts (j - 1) 0) (get_or v.shards (j - 1) 0) best lowest ≡ true →
-      Best now (counting (keep (over_at anchor route) (drop (j - 1) ds))) (get_or v.cuts (j - 1) 0) (get_or v.shards (j - 1) 0) (get_or v.readable (j - 1) b)
-  turn_won b t =
+    (h : Best now (counting (keep (over_at anchor route) (drop j ds))) best lowest answers) (x : Seen) (e : x ≡ get_or v.items (j - 1) x) where
+  pub turn_won : over_by anchor route x.shard.0 x.zeros x.cut.0 && wins x.cut.0 x.shard.0 best lowest ≡ true →
+      Best now (counting (keep (over_at anchor route) (drop (j - 1) ds))) x.cut.0 x.shard.0 x.is_readable
+  turn_won t =
       let d = get_or ds (j - 1) nobody in
-      let see = sees ds now v s (j - 1) nobody (omega arith) in
-      rw (rest_down ds j nobody p (omega (arith, count ds now v s)), see.shard, see.cut, see.readable b)
-      (count_one now d see.good (over_at anchor route) (drop j ds) best lowest answers h (at_place d.shard d.cut)
-      (over_by_over anchor route d d.shard _ d.cut see.good.shard refl see.zeros refl) (rw (see.shard, see.cut) at t))
+      let see = seen_at ds now v s (j - 1) x (omega arith) e in
+      let good = good-at ds now v s (j - 1) (omega arith) in
+      rw (rest_down ds j nobody p (omega (arith, s.count)), see.shard, see.cut, see.readable)
+      (count_one now d good (over_at anchor route) (drop j ds) best lowest answers h (over_by anchor route d.shard x.zeros d.cut)
+      (over_by_over anchor route d d.shard _ d.cut good.shard refl see.zeros refl) (rw (see.shard, see.cut) at t))
 
-  pub turn_lost : at_place (get_or v.shards (j - 1) 0) (get_or v.cuts (j - 1) 0) && wins (get_or v.cuts (j - 1) 0) (get_or v.shards (j - 1) 0) best lowest ≡ false →
+  pub turn_lost : over_by anchor route x.shard.0 x.zeros x.cut.0 && wins x.cut.0 x.shard.0 best lowest ≡ false →
       Best now (counting (keep (over_at anchor route) (drop (j - 1) ds))) best lowest answers
   turn_lost t =
       let d = get_or ds (j - 1) nobody in
-      let see = sees ds now v s (j - 1) nobody (omega arith) in
-      rw (rest_down ds j nobody p (omega (arith, count ds now v s)))
-      (count_none now d see.good (over_at anchor route) (drop j ds) best lowest answers h (at_place d.shard d.cut)
-      (over_by_over anchor route d d.shard _ d.cut see.good.shard refl see.zeros refl) (rw (see.shard, see.cut) at t))
-
-pub none_yet_lem : (ds : List Departure) (now : ℕ) (v : View) → Shows ds now v → (p : Departure → Bool) (lowest : ℕ) → Best now (counting (keep p (drop v.len ds))) (2 ^ 64 - 1) lowest true
-none_yet_lem ds now v s p lowest = rw (drop_of_length-le ds {i = v.len} (omega (arith, count ds now v s))) (refl, refl)
+      let see = seen_at ds now v s (j - 1) x (omega arith) e in
+      let good = good-at ds now v s (j - 1) (omega arith) in
+      rw (rest_down ds j nobody p (omega (arith, s.count)))
+      (count_none now d good (over_at anchor route) (drop j ds) best lowest answers h (over_by anchor route d.shard x.zeros d.cut)
+      (over_by_over anchor route d d.shard _ d.cut good.shard refl see.zeros refl) (rw (see.shard, see.cut) at t))
 
 pub gone-through : (now : ℕ) (ds : List Departure) (p : Departure → Bool) (j best lowest : ℕ) (answers : Bool) → j ≡ 0 →
     Best now (counting (keep p (drop j ds))) best lowest answers → answers ≡ answerable now (counting (keep p ds))
@@ -178,23 +157,25 @@ said-named now ds e r departed_by n t h =
     h ∙ ap (λ m. any (named_open now m) ds) (sym n) ∙ sym (any-kept (readable now) (λ d. eqb e.departed_by d.shard) ds)
     ∙ ap (λ b. any (readable now) (keep (λ d. b && eqb e.departed_by d.shard) ds)) (sym t)
 
--- at a place of the view, and past it
-module _ (ds : List Departure) (now : ℕ) (v : View) (s : Shows ds now v) (departed_by i : ℕ) where
-  pub open_one : (b : Bool) → i < v.len → eqb departed_by (get_or v.shards i 0) && get_or v.readable i b ≡ true → any (named_open now departed_by) (drop i ds) ≡ true
-  open_one b h t =
-      let see = sees ds now v s i nobody h in
-      any-from (named_open now departed_by) ds i nobody (omega (arith, count ds now v s))
-      ∙ or_left (named_open now departed_by (get_or ds i nobody)) (any (named_open now departed_by) (drop (i + 1) ds)) (rw (see.shard, see.readable b) at t)
+-- the same test of two lists, place by place
+alike : {A B : Type 0} (p : A → Bool) (q : B → Bool) (a : A) (b : B) (xs : List A) (ys : List B) → length xs ≡ length ys →
+    ((j : ℕ) → j < length xs → p (get_or xs j a) ≡ q (get_or ys j b)) → any p xs ≡ any q ys
+alike p q a b [] [] h f = refl
+alike p q a b [] (y ∷ ys) h f = absurd (omega arith)
+alike p q a b (x ∷ xs) [] h f = absurd (omega arith)
+alike p q a b (x ∷ xs) (y ∷ ys) h f = ap₂ ◌||◌ (f 0 (omega arith)) (alike p q a b xs ys (omega arith) (λ j k. f (suc j) (omega arith)))
 
-  pub open_none : (b : Bool) → i < v.len → eqb departed_by (get_or v.shards i 0) && get_or v.readable i b ≡ false →
-      any (named_open now departed_by) (drop (i + 1) ds) ≡ any (named_open now departed_by) (drop i ds)
-  open_none b h t =
-      let see = sees ds now v s i nobody h in
-      let gone : named_open now departed_by (get_or ds i nobody) ≡ false = rw (see.shard, see.readable b) at t in
-      sym (any-from (named_open now departed_by) ds i nobody (omega (arith, count ds now v s)) ∙ ap (λ c. c || any (named_open now departed_by) (drop (i + 1) ds)) gone)
+-- a readable departure of the naming shard, as the view has it
+abbrev pub seen_open : ℕ → Seen → Bool
+seen_open departed_by x = eqb departed_by x.shard.0 && x.is_readable
 
-  pub open_past : v.len ≤ i → any (named_open now departed_by) (drop i ds) ≡ false
-  open_past h = any_past (named_open now departed_by) ds i (omega (arith, count ds now v s))
+pub said-open : (ds : List Departure) (now : ℕ) (v : View) (departed_by : ℕ) → Shows ds now v →
+    any (seen_open departed_by) (take v.len v.items) ≡ any (named_open now departed_by) ds
+said-open ds now v departed_by s =
+    let many : length (take v.len v.items) ≡ v.len = length-take-le v.len v.items (omega (arith, v.room, v.item_length)) in
+    alike (seen_open departed_by) (named_open now departed_by) unseen nobody (take v.len v.items) ds (omega (arith, many, s.count)) (λ j h.
+    let see = s.seen j nobody unseen (omega (arith, many)) in
+    rw (get_or-take v.len v.items j unseen (omega (arith, many)), see.shard, see.readable))
 
 -- what an entry holds: a departure of its naming shard, or one over a remote route
 pub named-holds : (local : ℕ) (d : Departure) (e : Entry) → is_shard d.shard ≡ true → e.departed_by ≡ d.shard → true ≡ holds local d e

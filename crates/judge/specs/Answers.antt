@@ -4,8 +4,9 @@ use Rattle.lists.specs.Lists.{keep, any}
 use Rattle.rules.specs.Numbers.{is_shard}
 use Rattle.rules.specs.Plain.{Entry, Departure, remote}
 use Rattle.rules.specs.Prune.{readable, is_of_departed_by, over, departure_over, answerable}
+use Rattle.judge.specs.declared.views.Seen.{Seen}
 use Rattle.judge.specs.declared.views.View.{View}
-use Rattle.judge.specs.View.{view, zeros_of, Shows}
+use Rattle.judge.specs.View.{zeros_of, Shows}
 
 -- an entry with these routes and this anchor
 pub record Asks (rs : List ℕ) (a : ℕ) (e : Entry) : Type 0 where
@@ -24,12 +25,12 @@ is_answerable now ds local e = any (λ r. answerable now (departure_over ds e r)
 abbrev pub covers_some : ℕ → Departure → Entry → Bool
 covers_some local d e = any (λ r. over e r d) (remote local e.terms)
 
--- What the functions over a view's numbers say of every ledger whose departures the view shows.
+-- What the functions over a view say of every ledger whose departures the view shows.
 
 -- of an entry that a shard's record names, whether that shard has a readable departure
-abbrev pub SaysNamed : List ℕ → List Bool → ℕ → ℕ → Bool → Type 0
-SaysNamed shards flags n shard r =
-    (ds : List Departure) (now : ℕ) (zeros cuts : List ℕ) (e : Entry) → Shows ds now (view shards zeros cuts flags n) →
+abbrev pub SaysNamed : View → ℕ → Bool → Type 0
+SaysNamed v shard r =
+    (ds : List Departure) (now : ℕ) (e : Entry) → Shows ds now v →
     e.departed_by ≡ shard → ltb 0 e.departed_by ≡ true → r ≡ named_readable now ds e
 
 -- of an entry with these routes and this anchor, whether it is answerable
@@ -37,6 +38,6 @@ abbrev pub SaysAnswerable : View → List ℕ → ℕ → ℕ → Bool → Type 
 SaysAnswerable v routes anchor local r = (ds : List Departure) (now : ℕ) (e : Entry) → Shows ds now v → Asks routes anchor e → r ≡ is_answerable now ds local e
 
 -- of such an entry, whether a departure with these numbers is over a remote route
-abbrev pub SaysCovered : ℕ → ℕ → ℕ → List ℕ → ℕ → ℕ → Bool → Type 0
-SaysCovered shard zeros cut routes anchor local r =
-    (d : Departure) (e : Entry) → is_shard d.shard ≡ true → shard ≡ d.shard → zeros ≡ zeros_of d → cut ≡ d.cut → Asks routes anchor e → r ≡ covers_some local d e
+abbrev pub SaysCovered : Seen → List ℕ → ℕ → ℕ → Bool → Type 0
+SaysCovered x routes anchor local r =
+    (d : Departure) (e : Entry) → is_shard d.shard ≡ true → x.shard.0 ≡ d.shard → x.zeros ≡ zeros_of d → x.cut.0 ≡ d.cut → Asks routes anchor e → r ≡ covers_some local d e

@@ -1,10 +1,11 @@
 -- What a view shows of the departures on file at a clock.
-use Rattle.std.specs.Prelude.{ℕ, ◌≤◌, ◌<◌, ◌≡◌, Bool, List, map, length, take}
+use Rattle.std.specs.Prelude.{ℕ, ◌≡◌, ◌<◌, List, length, get_or}
 use Rattle.std.specs.Int.Count.{count_leading_zeros}
 use Rattle.lists.specs.Lists.{Every}
-use Rattle.rules.specs.Plain.{Departure, shard_of}
+use Rattle.rules.specs.Plain.{Departure}
 use Rattle.rules.specs.Prune.{readable}
 use Rattle.rules.specs.Good.{GoodDeparture}
+use Rattle.judge.specs.declared.views.Seen.{Seen}
 use Rattle.judge.specs.declared.views.View.{View}
 
 abbrev pub cut_of : Departure → ℕ
@@ -14,24 +15,15 @@ cut_of d = d.cut
 abbrev pub zeros_of : Departure → ℕ
 zeros_of d = count_leading_zeros 64 d.shard
 
--- the view that these arrays make up, of which the first n count
-abbrev pub view : List ℕ → List ℕ → List ℕ → List Bool → ℕ → View
-view ss zs cs rs n = record { shards = ss; zeros = zs; cuts = cs; readable = rs; len = n }
+-- a departure's shard, its leading zeros, its cut, and whether it is readable
+pub record Sees (now : ℕ) (d : Departure) (x : Seen) : Type 0 where
+  pub shard : x.shard.0 ≡ d.shard
+  pub zeros : x.zeros ≡ zeros_of d
+  pub cut : x.cut.0 ≡ cut_of d
+  pub readable : x.is_readable ≡ readable now d
 
--- the arrays are whole, and a route is shifted by less than its width
-pub record Sized (v : View) : Type 0 where
-  pub room : v.len ≤ 32
-  pub shard_length : length v.shards ≡ 32
-  pub zero_length : length v.zeros ≡ 32
-  pub cut_length : length v.cuts ≡ 32
-  pub readable_length : length v.readable ≡ 32
-  pub within : Every (λ z. z < 64) v.zeros
-
--- in order, each departure's shard, its leading zeros, its cut, and whether it is readable
+-- in order, each departure
 pub record Shows (ds : List Departure) (now : ℕ) (v : View) : Type 0 where
-  pub sized : Sized v
   pub good : Every GoodDeparture ds
-  pub shards : take v.len v.shards ≡ map shard_of ds
-  pub zeros : take v.len v.zeros ≡ map zeros_of ds
-  pub cuts : take v.len v.cuts ≡ map cut_of ds
-  pub readable : take v.len v.readable ≡ map (readable now) ds
+  pub count : length ds ≡ v.len
+  pub seen : (j : ℕ) (d : Departure) (x : Seen) → j < v.len → Sees now (get_or ds j d) (get_or v.items j x)

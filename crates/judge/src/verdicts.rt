@@ -1,14 +1,14 @@
 // The five rules.
-ghost use Rattle.std.specs.Prelude.{◌≡◌, ◌&&◌, ◌||◌, true, ltb, ◌<◌};
-ghost use Rattle.rules.specs.Plain as plain;
+ghost use Rattle.std.specs.Prelude.{◌≡◌, ◌&&◌, ◌||◌, true, ltb};
+ghost use Rattle.lists.specs.Lists.{filled};
 ghost use Rattle.rules.specs.Plain.{is_core, is_settling};
 ghost use Rattle.rules.specs.Numbers.{is_shard, is_time, is_span};
-ghost use Rattle.entry.specs.Entry.{plain_entry, plain_part, Fits};
-ghost use Rattle.judge.specs.View.{view, Sized};
+ghost use Rattle.entry.specs.Entry.{plain_entry, Fits};
 ghost use Rattle.judge.specs.Verdict.{reported_unless, quiet_unless, RuledByRoutes, Judged};
 
-use crate::{routes, views};
-use entry::{Entry, Part};
+use crate::routes;
+use crate::views::View;
+use entry::{Certificate, Entry};
 use types::{Shard, Time};
 
 // Reported holds what the report says of covered, 0 or 1; an entry that only falls is not reported.
@@ -41,97 +41,65 @@ fn reported_unless(stands: bool, covered: u64) -> Verdict
     }
 }
 
-// Rule 1: core with certificate below 2.
-fn is_awaiting(part: Part, certified: u8) -> bool
-    ensures { result ≡ (is_core (plain_part part) && ltb certified 2) }
+// Rule 1: core with no certificate by execution.
+#[tactic(auto, unfolding(entry::specs::Entry::plain_entry))]
+fn is_awaiting(e: &Entry) -> bool
+    ensures { result ≡ (is_core (plain_entry e.now).part && ltb (plain_entry e.now).certificate 2) }
 {
-    match part {
-        Part::Core => certified < 2,
-        Part::Whole => false,
-        Part::Leg => false,
-        Part::Remainder => false,
-    }
+    e.part.is_core() && e.certified < Certificate::ByExecution
 }
 
 // Rule 2: leg, remainder or any absence.
-fn is_settling(part: Part, absences: u8) -> bool
-    ensures { result ≡ (is_settling (plain_part part) || ltb 0 absences) }
+#[tactic(auto, unfolding(entry::specs::Entry::plain_entry))]
+fn is_settling(e: &Entry) -> bool
+    requires { Fits e.now }
+    ensures { result ≡ (is_settling (plain_entry e.now).part || filled (plain_entry e.now).absences) }
 {
-    match part {
-        Part::Leg => true,
-        Part::Remainder => true,
-        Part::Whole => 0 < absences,
-        Part::Core => 0 < absences,
-    }
+    e.part.is_settling() || 0 < e.absences_len
 }
 
 // Rules 4 and 5, of an entry that no record names and that has no absence.
-fn by_routes<'a>(
-    e: Entry,
-    local: Shard,
-    validity: u64,
-    time: Time,
-    shards: &'a [u64; 32],
-    zeros: &'a [u32; 32],
-    cuts: &'a [u64; 32],
-    readable: &'a [bool; 32],
-    len: usize,
-) -> Verdict
-    requires fits { Fits e }
+fn by_routes(e: &Entry, local: Shard, validity: u64, time: Time, view: &View) -> Verdict
+    requires fits { Fits e.now }
     requires local_value { is_shard local.0 ≡ true }
-    requires at_value { is_time e.at.0 ≡ true }
+    requires at_value { is_time e.now.at.0 ≡ true }
     requires validity_value { is_span validity ≡ true }
-    requires sized { Sized (view shards.now zeros.now cuts.now readable.now len) }
-    ensures { RuledByRoutes (view shards.now zeros.now cuts.now readable.now len) time.0 local.0 validity (plain_entry e) result }
+    ensures { RuledByRoutes view.now time.0 local.0 validity (plain_entry e.now) result }
 {
-    if 0 < e.certified {
-        if e.reaches_beyond(local) {
-            let routes = e.routes;
-            let n = e.routes_len as usize;
-            let anchor = e.anchor;
-            let yet = routes::is_answerable(
-                routes, n, anchor, local, shards, zeros, cuts, readable, len,
-            );
-            return reported_unless(yet, 0);
-        }
+    if e.certified != Certificate::Missing && e.reaches_beyond(local) {
+        return reported_unless(routes::is_answerable(e, local, view), 0);
     }
     quiet_unless(time.0 < e.at.0 + validity)
 }
 
 // The verdict on an entry at a clock, by the first rule that fits.
-pub fn judge<'a>(
-    e: Entry,
+pub fn judge(
+    e: &Entry,
     local: Shard,
     validity: u64,
     leg_span: u64,
     time: Time,
-    shards: &'a [u64; 32],
-    zeros: &'a [u32; 32],
-    cuts: &'a [u64; 32],
-    readable: &'a [bool; 32],
-    len: usize,
+    view: &View,
 ) -> Verdict
-    requires fits { Fits e }
+    requires fits { Fits e.now }
     requires local_value { is_shard local.0 ≡ true }
-    requires at_value { is_time e.at.0 ≡ true }
+    requires at_value { is_time e.now.at.0 ≡ true }
     requires validity_value { is_span validity ≡ true }
     requires leg_span_value { is_span leg_span ≡ true }
-    requires sized { Sized (view shards.now zeros.now cuts.now readable.now len) }
-    ensures { Judged (view shards.now zeros.now cuts.now readable.now len) time.0 local.0 validity leg_span (plain_entry e) result }
+    ensures { Judged view.now time.0 local.0 validity leg_span (plain_entry e.now) result }
 {
-    let part = e.part;
     let departed_by = e.departed_by;
-    let settles = is_settling(part, e.absences_len);
+    let settles = is_settling(e);
     let named = 0 < departed_by.0;
     let by_window = settles; // rule 2, ahead of rule 3
-    if is_awaiting(part, e.certified) {
+    if is_awaiting(e) {
         return Verdict::Stands;
     }
     if by_window {
         return quiet_unless(time.0 < e.at.0 + leg_span);
     }
     if named {
-        return reported_unless(views::named_readable(departed_by, shards, readable, len), 1);
+        return reported_unless(view.has_readable(departed_by), 1);
     }
-    by_routes(e, local, validity, time, shards, zeros, cuts, readable, len)
+    by_routes(e, local, validity, time, view)
 }
