@@ -30,6 +30,8 @@ use Rattle.rules.specs.Good.{Good, GoodEntry, Holds, is_departed_by}
 use Rattle.rules.proofs.Taken.{GoodGroup, groups_good, rebuilt-good}
 use Rattle.rules.proofs.Kept.{passed, tested, groups_count, rebuilt-count, with_entries_lem, included_rows, changes, departed_by-shard, departed_by-good}
 use Rattle.rules.proofs.Stepwise.{on_entries, of_entries, through-entries, tally-entries}
+use Rattle.types.specs.declared.refusal.Refusal.{Refusal}
+use Rattle.types.specs.Refusals.{refusal_number}
 use Rattle.types.specs.Transactions.{number_of}
 use Rattle.entry.specs.declared.Entry.{Entry}
 use Rattle.entry.specs.Entry.{plain_entry, Means}
@@ -39,11 +41,11 @@ use Rattle.words.specs.Taken.{group_at, reach_at}
 use Rattle.words.proofs.Groups.{recorded, groups_length, reach_start, reach-next, group_at_lem}
 use Rattle.ledger.specs.declared.Ledger.{Ledger}
 use Rattle.ledger.specs.Contents.{contents, entries_of, Held, with_parts, with_count, storing, slot_at, lying_at}
-use Rattle.ledger.specs.Meets.{Meets, ends, says}
+use Rattle.ledger.specs.Meets.{Meets, says, says_no}
 use Rattle.ledger.proofs.Places.{entries-length, found_at, not_found}
 use Rattle.ledger.proofs.Lift.{Became, counted, changed, taken_in}
 use Rattle.ledger.proofs.Meeting.{refuses, passes, answers}
-use Rattle.ledger.proofs.Doing.{Doing, nothing-done, one_done, all_done, Going, left_out}
+use Rattle.ledger.proofs.Doing.{Doing, nothing-done, one_done, all_done}
 use Rattle.batches.specs.Abandoned.{transactions, new_to, refusal_by}
 
 -- the roster's keys say what is owed
@@ -78,13 +80,12 @@ passing ws p g e =
       room = omega (arith, room, g.entries.count, groups_count (record_shard ws) gs p.entries, rebuilt-count (record_shard ws) gs p.entries);
     }
 
-pub passes_by : (l : Ledger) (ws : List ℕ) (refused : ℕ) → Held l → refused ≡ refusal_by (keys_of l.roster) ws → refused ≡ 0 → Passed ws (contents l)
-passes_by l ws refused h q e = passing ws (contents l) h.good (sym (by_keys l h ws) ∙ sym q ∙ e)
+pub passes_by : (l : Ledger) (ws : List ℕ) → Held l → 0 ≡ refusal_by (keys_of l.roster) ws → Passed ws (contents l)
+passes_by l ws h q = passing ws (contents l) h.good (sym (by_keys l h ws) ∙ sym q)
 
--- few groups are gone through, refused or not
-pub groups_few : (l : Ledger) (ws : List ℕ) (refused m : ℕ) → Held l → refused ≡ refusal_by (keys_of l.roster) ws → m ≡ cond (ltb 0 refused) 0 (group_count ws) → m ≤ 48
-groups_few l ws zero m h q e = omega (arith, e, recorded ws (passes_by l ws 0 h q refl).formed)
-groups_few l ws (suc k) m h q e = omega (arith, left_out k (group_count ws) m e)
+pub turned_away : (r : Refusal) (l : Ledger) (ws : List ℕ) → Held l → refusal_number r ≡ refusal_by (keys_of l.roster) ws → Meets (after_abandonment ws (contents l)) [] [] (says_no r l)
+unfolding after_abandonment
+turned_away r l ws h e = refuses r l [] (abandonment_refusal ws (contents l)) _ h (sym (by_keys l h ws) ∙ sym e)
 
 -- The ledger stays good.
 
@@ -138,10 +139,11 @@ unfolding contents
 same_count l p es e = ap (λ (p : Plain). p.rebuilt) e
 
 -- after the last
-rebuilt-all : (l₀ : Ledger) (ws : List ℕ) (l : Ledger) (start n i sum : ℕ) → abandonment_refusal ws (contents l₀) ≡ 0 → record_formed ws ≡ true → Rebuilding l₀ ws l start n i →
+pub rebuilt-all : (l₀ : Ledger) (ws : List ℕ) (l : Ledger) (start n i sum : ℕ) → Held l₀ → 0 ≡ refusal_by (keys_of l₀.roster) ws → record_formed ws ≡ true → Rebuilding l₀ ws l start n i →
     group_count ws ≤ i → sum ≡ min (l.rebuilt + n) max_count → Meets (after_abandonment ws (contents l₀)) [] [] (says n (with_count l sum))
 unfolding after_abandonment
-rebuilt-all l₀ ws l start n i sum e f v h q =
+rebuilt-all l₀ ws l start n i sum held none f v h q =
+    let e : abandonment_refusal ws (contents l₀) ≡ 0 = sym (by_keys l₀ held ws) ∙ sym none in
     let gs = record_groups ws in
     let p = contents l₀ in
     let d = all_done _ _ gs l₀ l n i v.doing (omega (arith, groups_length ws f)) in
@@ -152,23 +154,6 @@ rebuilt-all l₀ ws l start n i sum e f v h q =
     passes (abandonment_refusal ws p) p _ [] [] (says n (with_count l sum)) e
     (rw (sym many)
     (answers n (with_count l sum) _ _ (record { held = b.held; holds = b.holds ∙ ap₂ with_rebuilt sums es }) refl))
-
--- no more than it was
-same_counted : (l : Ledger) (sum : ℕ) → Held l → sum ≡ min (l.rebuilt + 0) max_count → with_count l sum ≡ l
-unfolding contents
-same_counted l sum h q = let e : sum ≡ l.rebuilt = omega (arith, q, h.good.rebuilt) in ap (with_count l) e
-
--- at the call's end, refused or brought back
-pub rebuilds : (l₀ : Ledger) (ws : List ℕ) (l : Ledger) (refused m start n i sum : ℕ) → Held l₀ → refused ≡ refusal_by (keys_of l₀.roster) ws → m ≡ cond (ltb 0 refused) 0 (group_count ws) →
-    Going refused l₀ l n (Rebuilding l₀ ws l start n i) → m ≤ i → sum ≡ min (l.rebuilt + n) max_count → Meets (after_abandonment ws (contents l₀)) [] [] (ends refused n (with_count l sum))
-unfolding after_abandonment
-rebuilds l₀ ws l zero m start n i sum h q e v k s =
-    rebuilt-all l₀ ws l start n i sum (sym (by_keys l₀ h ws) ∙ sym q) (passes_by l₀ ws 0 h q refl).formed (v.goes refl) (omega (arith, e, k)) s
-rebuilds l₀ ws l (suc r) m start n i sum h q e v k s =
-    let here = v.stays (omega arith) in
-    let none = v.none (omega arith) in
-    let kept : with_count l sum ≡ l₀ = ap (λ y. with_count y sum) here ∙ same_counted l₀ sum h (s ∙ ap₂ (λ (y : Ledger) (d : ℕ). min (y.rebuilt + d) max_count) here none) in
-    refuses r l₀ [] (abandonment_refusal ws (contents l₀)) _ (ends (suc r) n (with_count l sum)) h (sym (by_keys l₀ h ws) ∙ sym q) (ap₂ (ends (suc r)) none kept)
 
 -- a turn of the loop: the group's entry x was read, and the ledger after it
 module _ (l₀ : Ledger) (ws : List ℕ) (p : Passed ws (contents l₀)) (l : Ledger) (start n i : ℕ) (v : Rebuilding l₀ ws l start n i) (h : i < group_count ws)

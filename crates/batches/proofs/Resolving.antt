@@ -24,6 +24,7 @@ use Rattle.rules.specs.Calls.{forget, finalization, after_forget, finalization_r
 use Rattle.rules.specs.Good.{Good}
 use Rattle.rules.proofs.Kept.{tested, step-good}
 use Rattle.rules.proofs.Stepwise.{on_entries, of_entries, through-entries, tally-entries}
+use Rattle.types.specs.declared.refusal.Refusal.TheVariants.{Malformed}
 use Rattle.entry.specs.declared.Entry.{Entry}
 use Rattle.entry.specs.Entry.{plain_entry, Means}
 use Rattle.store.specs.declared.roster.Roster.{Roster}
@@ -34,11 +35,11 @@ use Rattle.store.specs.Issuers.{is_not, pairs_in}
 use Rattle.words.proofs.Lines.{lines_length}
 use Rattle.ledger.specs.declared.Ledger.{Ledger}
 use Rattle.ledger.specs.Contents.{contents, Held, with_parts, storing, slot_at, lying_at}
-use Rattle.ledger.specs.Meets.{Meets, says, ends}
+use Rattle.ledger.specs.Meets.{Meets, says, says_no}
 use Rattle.ledger.proofs.Places.{found_at, not_found}
 use Rattle.ledger.proofs.Lift.{Became, changed, let_go}
 use Rattle.ledger.proofs.Meeting.{refuses, passes, answers}
-use Rattle.ledger.proofs.Doing.{Doing, nothing-done, one_done, all_done, Going}
+use Rattle.ledger.proofs.Doing.{Doing, nothing-done, one_done, all_done}
 use Rattle.batches.specs.declared.finalization.Ruling as declared
 use Rattle.batches.specs.declared.finalization.Ruling.TheVariants.{Skip, Resolve, Release, Refused}
 use Rattle.batches.specs.Rulings.{plain_ruling, ruled_on}
@@ -52,7 +53,7 @@ pub resolving : (l : Ledger) (ws : List ℕ) → Held l → Resolving l ws l 0 0
 resolving l ws h = nothing-done _ _ (finalization_lines ws) l h
 
 -- after the last
-resolved : (l₀ : Ledger) (ws : List ℕ) (l : Ledger) (released i : ℕ) → finalization_formed ws ≡ true → Resolving l₀ ws l released i → line_count ws ≤ i →
+pub resolved : (l₀ : Ledger) (ws : List ℕ) (l : Ledger) (released i : ℕ) → finalization_formed ws ≡ true → Resolving l₀ ws l released i → line_count ws ≤ i →
     Meets (after_finalization ws (contents l₀)) [] [] (says released l)
 unfolding after_finalization
 resolved l₀ ws l released i f v h =
@@ -75,17 +76,10 @@ released_few l₀ ws l released i f v =
     at_most_one resolve = omega arith
     at_most_one release = omega arith
 
--- no number means that the words are well formed
-pub formed : (ws : List ℕ) (refused : ℕ) → refused ≡ finalization_refusal ws → refused ≡ 0 → finalization_formed ws ≡ true
-formed ws refused q e = (tested (finalization_formed ws) 4 0 (sym q ∙ e)).0
-
--- at the call's end, refused or resolved
-pub resolves : (l₀ : Ledger) (ws : List ℕ) (l : Ledger) (refused n released i : ℕ) → Held l₀ → refused ≡ finalization_refusal ws → n ≡ cond (ltb 0 refused) 0 (line_count ws) →
-    Going refused l₀ l released (Resolving l₀ ws l released i) → n ≤ i → Meets (after_finalization ws (contents l₀)) [] [] (ends refused released l)
+-- words that are not well formed are turned away
+pub turned_away : (l : Ledger) (ws : List ℕ) → Held l → finalization_formed ws ≡ false → Meets (after_finalization ws (contents l)) [] [] (says_no Malformed l)
 unfolding after_finalization
-resolves l₀ ws l zero n released i h q e v k = resolved l₀ ws l released i (formed ws 0 q refl) (v.goes refl) (omega (arith, e, k))
-resolves l₀ ws l (suc m) n released i h q e v k =
-    refuses m l₀ [] (finalization_refusal ws) _ (ends (suc m) released l) h (sym q) (ap₂ (ends (suc m)) (v.none (omega arith)) (v.stays (omega arith)))
+turned_away l ws h e = refuses Malformed l [] (finalization_refusal ws) _ h (rw e)
 
 -- a line of Accept that decides itself turns a core that owes
 resolve-good : (p : Plain) (t : ℕ) (e : plain.Entry) → get transaction_of t p.entries ≡ some e → is_core e.part && owes p.local e.terms ≡ true → Good p →
