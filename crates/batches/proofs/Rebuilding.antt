@@ -2,7 +2,7 @@
 -- An owed entry takes the shard, any other is rebuilt; that there is room for each was counted before.
 -- Assumes nothing.
 use Rattle.std.specs.Prelude.{Some, None}
-use Prim.Native.Nat.{ℕ, zero, suc, ◌+◌, ◌-◌, ◌*◌, ◌≤◌, ◌<◌, min}
+use Prim.Native.Nat.{ℕ, ◌+◌, ◌-◌, ◌*◌, ◌≤◌, ◌<◌, min}
 use mathlib.Core.Path.{◌≡◌, refl, sym, ap, ap₂, ◌∙◌, subst}
 use mathlib.Core.Bool.{Bool, true, false, cond, not}
 use mathlib.Core.List.{List, [], ◌∷◌}
@@ -38,7 +38,7 @@ use Rattle.entry.specs.Entry.{plain_entry, Means}
 use Rattle.store.specs.declared.roster.Roster.{Roster}
 use Rattle.store.specs.Roster.{keys_of, free_slot, is, below, Inserted}
 use Rattle.words.specs.Taken.{group_at, reach_at}
-use Rattle.words.proofs.Groups.{recorded, groups_length, reach_start, reach-next, group_at_lem}
+use Rattle.words.proofs.Groups.{groups_length, reach_start, reach-next, group_at_lem}
 use Rattle.ledger.specs.declared.Ledger.{Ledger}
 use Rattle.ledger.specs.Contents.{contents, entries_of, Held, with_parts, with_count, storing, slot_at, lying_at}
 use Rattle.ledger.specs.Meets.{Meets, says, says_no}
@@ -80,8 +80,9 @@ passing ws p g e =
       room = omega (arith, room, g.entries.count, groups_count (record_shard ws) gs p.entries, rebuilt-count (record_shard ws) gs p.entries);
     }
 
-pub passes_by : (l : Ledger) (ws : List ℕ) → Held l → 0 ≡ refusal_by (keys_of l.roster) ws → Passed ws (contents l)
-passes_by l ws h q = passing ws (contents l) h.good (sym (by_keys l h ws) ∙ sym q)
+-- the words as they were handed in and as they were read are the same
+pub passes_by : (l : Ledger) (ws read : List ℕ) → Held l → 0 ≡ refusal_by (keys_of l.roster) ws → read ≡ ws → Passed read (contents l)
+passes_by l ws read h q same = subst (λ y. Passed y (contents l)) (sym same) (passing ws (contents l) h.good (sym (by_keys l h ws) ∙ sym q))
 
 pub turned_away : (r : Refusal) (l : Ledger) (ws : List ℕ) → Held l → refusal_number r ≡ refusal_by (keys_of l.roster) ws → Meets (after_abandonment ws (contents l)) [] [] (says_no r l)
 unfolding after_abandonment

@@ -2,14 +2,14 @@
 -- skips, turns or releases as the rule on its entry says.
 -- Assumes nothing.
 use Rattle.std.specs.Prelude.{Some, None}
-use Prim.Native.Nat.{ℕ, zero, suc, ◌+◌, ◌≤◌}
-use mathlib.Core.Path.{◌≡◌, refl, sym, ap, ap₂, ◌∙◌, subst}
+use Prim.Native.Nat.{ℕ, ◌+◌, ◌≤◌}
+use mathlib.Core.Path.{◌≡◌, refl, sym, ap, ◌∙◌, subst}
 use mathlib.Core.Bool.{Bool, true, false, cond, not, ◌&&◌, false≢true}
 use mathlib.Core.List.{List, [], ◌∷◌}
 use mathlib.Core.Option.{some}
 use mathlib.Core.Logic.{◌⊎◌, inl, inr}
 use native.Mathlib.Omega.{arith}
-use lib.Dec.{eqb, ltb, leb}
+use lib.Dec.{eqb, leb}
 use borrow.Author.Tests.{leb-true, le-leb, eqb-false}
 use lib.ListN.{drop}
 use Rattle.lists.specs.Lists.{keep, has, get, change, self}
@@ -22,7 +22,7 @@ use Rattle.rules.specs.Words.{Line, line_count, finalization_formed, finalizatio
 use Rattle.rules.specs.Entries.{Ruling, skip, resolve, release, ruling_on, ruling, ruled, is_release, ruling_in, with_line, released_of, released_by, with_part}
 use Rattle.rules.specs.Calls.{forget, finalization, after_forget, finalization_refusal, after_finalization}
 use Rattle.rules.specs.Good.{Good}
-use Rattle.rules.proofs.Kept.{tested, step-good}
+use Rattle.rules.proofs.Kept.{step-good}
 use Rattle.rules.proofs.Stepwise.{on_entries, of_entries, through-entries, tally-entries}
 use Rattle.types.specs.declared.refusal.Refusal.TheVariants.{Malformed}
 use Rattle.entry.specs.declared.Entry.{Entry}

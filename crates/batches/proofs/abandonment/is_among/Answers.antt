@@ -1,4 +1,4 @@
-use Rattle.std.proofs.Common.{ℕ, Bool, ◌≡◌, ◌≤◌, ◌∙◌, sym, ap, eqb, length, get_or, arith, rules, tests}
+use Rattle.std.proofs.Common.{◌≤◌, ◌∙◌, sym, ap, eqb, length, arith, rules, tests}
 use Rattle.lists.specs.Lists.{at, self}
 use Rattle.lists.proofs.Loops.{any_hit, any_miss, any-end}
 use Rattle.types.specs.Transactions.{number_of}

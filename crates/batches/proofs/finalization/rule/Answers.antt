@@ -1,4 +1,4 @@
-use Rattle.std.proofs.Common.{◌≡◌, ◌∙◌, ap₂}
+use Rattle.std.proofs.Common.{◌∙◌, ap₂}
 use Rattle.entry.specs.Entry.{plain_entry}
 use Rattle.batches.specs.Rulings.{ruled_by}
 use Rattle.batches.proofs.finalization.rule.Goals as goal

@@ -1,0 +1,51 @@
+-- A turn of the loop is one line: it skips, turns to remainder or releases as the rule on its entry says.
+use Rattle.std.proofs.Common.{sym, ◌∙◌, arith}
+use mathlib.Core.Logic.{inl, inr}
+use Rattle.types.specs.Transactions.{number_of}
+use Rattle.words.proofs.Lines.{finalized}
+use Rattle.ledger.proofs.Places.{AtSlot, found_at}
+use Rattle.batches.proofs.Resolving.{turned_away, resolved, released_few, line_unknown, line_leave, line-resolve, line-release}
+use Rattle.batches.proofs.finalization.release_resolved.Goals as goal
+use Rattle.batches.proofs.finalization.release_resolved.Goals.{in-Skip, in-Resolve, in-Release, in-Refused}
+
+-- the line's transaction was found
+there : (c : goal.In-Some-find) → AtSlot c.loop-i.ledger (number_of c.line-line.result.tx) c.in-Some-find.k
+there c = found_at c.loop-i.ledger c.loop-i.invariant.held _ c.in-Some-find.k (sym c.find.ensures ∙ c.in-Some-find.is)
+
+pub returns-in_default : goal.returns-in_default
+returns-in_default c = turned_away c.args.ledger c.args.words.now c.requires c.in_default.ensures
+
+pub loop-i-preserved-in_default-find : goal.loop-i-preserved-in_default-find
+loop-i-preserved-in_default-find c =
+    line_unknown c.args.ledger c.in-Some.finalization.words.now c.loop-i.ledger c.loop-i.released c.loop-i.i c.loop-i.invariant _ c.line-line.ensures.next (sym c.find.ensures ∙ c.in_default-find.is)
+
+pub offset_bounds-ledger-k : goal.offset_bounds-ledger-k
+offset_bounds-ledger-k c = omega (arith, (there c).place)
+
+pub bounds-ledger-k : goal.bounds-ledger-k
+bounds-ledger-k c = omega (arith, (there c).place, c.loop-i.invariant.held.roster)
+
+pub rule-requires : goal.rule-requires
+rule-requires c = (found_at c.loop-i.ledger c.loop-i.invariant.held _ c.in-Some-find.k (sym c.find.ensures ∙ c.in-Some-find.is)).fits _
+
+pub resolve-requires : goal.resolve-requires
+resolve-requires c = (found_at c.loop-i.ledger c.loop-i.invariant.held _ c.in-Some-find.k (sym c.find.ensures ∙ c.in-Some-find.is)).fits _
+
+pub remove_at-ledger-requires : goal.remove_at-ledger-requires
+remove_at-ledger-requires c = (c.loop-i.invariant.held.roster, (found_at c.loop-i.ledger c.loop-i.invariant.held _ c.in-Some-find.k (sym c.find.ensures ∙ c.in-Some-find.is)).place)
+
+pub overflow_add-released : goal.overflow_add-released
+overflow_add-released c =
+    omega (arith, finalized c.in-Some.finalization.words.now c.in-Some.finalization.formed, released_few c.args.ledger c.in-Some.finalization.words.now c.loop-i.ledger c.loop-i.released c.loop-i.i c.in-Some.finalization.formed c.loop-i.invariant)
+
+pub loop-i-preserved : goal.loop-i-preserved
+loop-i-preserved c =
+    elim c.match-rule.branch [
+      | in-Skip w ↦ rw (w.ledger-is, w.released-is) (line_leave c.args.ledger c.in-Some.finalization.words.now c.loop-i.ledger c.loop-i.released c.loop-i.i c.loop-i.invariant _ c.line-line.ensures.next c.in-Some-find.k _ (sym c.find.ensures ∙ c.in-Some-find.is) c.line-line.ensures.coded c.rule.result c.rule.ensures (inl w.in-Skip.is))
+      | in-Resolve w ↦ rw (w.ledger-is, w.released-is) (line-resolve c.args.ledger c.in-Some.finalization.words.now c.loop-i.ledger c.loop-i.released c.loop-i.i c.loop-i.invariant _ c.line-line.ensures.next c.in-Some-find.k _ (sym c.find.ensures ∙ c.in-Some-find.is) c.line-line.ensures.coded c.rule.result c.rule.ensures w.in-Resolve.is w.resolve.result w.resolve.ensures)
+      | in-Release w ↦ rw (w.ledger-is, w.released-is) (line-release c.args.ledger c.in-Some.finalization.words.now c.loop-i.ledger c.loop-i.released c.loop-i.i c.loop-i.invariant _ c.line-line.ensures.next c.in-Some-find.k _ (sym c.find.ensures ∙ c.in-Some-find.is) c.line-line.ensures.coded c.rule.result c.rule.ensures w.in-Release.is w.remove_at-ledger.result w.without-ledger.result w.remove_at-ledger.ensures w.without-ledger.ensures)
+      | in-Refused w ↦ rw (w.ledger-is, w.released-is) (line_leave c.args.ledger c.in-Some.finalization.words.now c.loop-i.ledger c.loop-i.released c.loop-i.i c.loop-i.invariant _ c.line-line.ensures.next c.in-Some-find.k _ (sym c.find.ensures ∙ c.in-Some-find.is) c.line-line.ensures.coded c.rule.result c.rule.ensures (inr w.in-Refused.is))
+    ]
+
+pub returns : goal.returns
+returns c = rw c.in-Some.ensures at (resolved c.args.ledger c.in-Some.finalization.words.now c.loop-i.ledger c.loop-i.released c.loop-i.i c.in-Some.finalization.formed c.loop-i.invariant (omega (arith, c.loop-i-test.false, c.len-i-end.ensures)))
