@@ -9,6 +9,7 @@ use native.Mathlib.Numerals.{add-one, add-two}
 use borrow.Author.Tests.{lt-ltb, le-ltb}
 use lib.ListN.{length, take, drop, get_or, set, length-set}
 use lib.Seq.{sets, take_all}
+use Rattle.std.specs.Int.{from_bool}
 use Rattle.lists.specs.Lists.{cons_if, keep, concat_map}
 use Rattle.lists.proofs.Keep.{length-keep}
 use Rattle.lists.proofs.Listing.{sets_front}
@@ -23,6 +24,7 @@ use Rattle.rules.specs.Calls as calls
 use Rattle.rules.specs.Calls.{close_words, closes_refusal, after_closes}
 use Rattle.rules.specs.Good.{Good}
 use Rattle.rules.proofs.Kept.{step-good}
+use Rattle.types.specs.declared.refusal.Refusal.TheVariants.{ListShort}
 use Rattle.entry.specs.declared.Entry.{Entry}
 use Rattle.entry.specs.Entry.{plain_entry}
 use Rattle.store.specs.declared.roster.Roster.{Roster}
@@ -69,29 +71,29 @@ module _ (l : Ledger) (h : Held l) (stay : List Bool) (codes : List ℕ) (count 
       stay_on b e =
           fill_next (stays_open l.local.0) stay (entries_of l) i (plain_entry here) b (omega (arith, v.stay_length, q, h.roster.room)) (omega (arith, entries-length l h)) cons e v.flags
 
-      pub judge_closed : is_closed l.local.0 (plain_entry here) ≡ true → Judging l (set stay i false) (set codes i code) (count + 1) (i + 1)
-      judge_closed t =
+      pub judge_next : (b : Bool) → b ≡ is_closed l.local.0 (plain_entry here) → Judging l (set stay i (not b)) (set codes i code) (count + from_bool b) (i + 1)
+      judge_next b e =
           record {
             high = omega arith;
-            few = omega (arith, v.few);
-            stay_length = length-set stay i false ∙ v.stay_length;
+            few = omega (arith, v.few, at_most_one b);
+            stay_length = length-set stay i (not b) ∙ v.stay_length;
             codes_length = length-set codes i code ∙ v.codes_length;
-            flags = stay_on false (sym (ap not t));
+            flags = stay_on (not b) (ap not e);
             decisions = codes_on;
-            total = omega (arith, rw (cons, t) at v.total);
+            total = one_more b (rw (cons, sym e) at v.total);
           }
+        where
+          rest : List plain.Entry
+          rest = keep (is_closed l.local.0) (drop (i + 1) (entries_of l))
 
-      pub judge_open : is_closed l.local.0 (plain_entry here) ≡ false → Judging l (set stay i true) (set codes i code) count (i + 1)
-      judge_open t =
-          record {
-            high = omega arith;
-            few = omega (arith, v.few);
-            stay_length = length-set stay i true ∙ v.stay_length;
-            codes_length = length-set codes i code ∙ v.codes_length;
-            flags = stay_on true (sym (ap not t));
-            decisions = codes_on;
-            total = rw (cons, t) at v.total;
-          }
+          at_most_one : (b : Bool) → from_bool b ≤ 1
+          at_most_one true = omega arith
+          at_most_one false = omega arith
+
+          one_more : (b : Bool) → count + length (cons_if b (plain_entry here) rest) ≡ length (keep (is_closed l.local.0) (entries_of l)) →
+              count + from_bool b + length rest ≡ length (keep (is_closed l.local.0) (entries_of l))
+          one_more true h = omega (arith, h)
+          one_more false h = omega (arith, h)
 
   pub judged_all : l.roster.len ≤ i → Judges l (record { stay = stay; codes = codes; count = count })
   judged_all q =
@@ -175,11 +177,11 @@ module _ (l : Ledger) (h : Held l) (lent : List ℕ) (c : Closing) (j : Judges l
   pub listed-length : length (listed l.roster c) ≡ 2 * c.count
   listed-length = ap length words_of ∙ words-length (calls.closed (contents l)) ∙ ap (λ n. 2 * n) (sym answer_of)
 
-  pub closes_short : length lent < 2 * c.count → Meets (after_closes (length lent) (contents l)) lent lent (says_no 9 l)
+  pub closes_short : length lent < 2 * c.count → Meets (after_closes (length lent) (contents l)) lent lent (says_no ListShort l)
   unfolding after_closes
   closes_short q =
-      refuses 8 l lent (closes_refusal (length lent) (contents l)) _ (says_no 9 l) h
-      (rw (lt-ltb (length lent) (length (concat_map close_words (calls.closed (contents l)))) (omega (arith, q, ap length words_of, listed-length)))) refl
+      refuses ListShort l lent (closes_refusal (length lent) (contents l)) _ h
+      (rw (lt-ltb (length lent) (length (concat_map close_words (calls.closed (contents l)))) (omega (arith, q, ap length words_of, listed-length))))
 
   kept_open : (r : Roster) → Retained l.roster (take l.roster.len c.stay) r → (x : Issuers) →
       issuers.Holds (unnamed_by (take l.roster.len c.stay) (keys_of l.roster) (pairs_in l.issuers)) x →

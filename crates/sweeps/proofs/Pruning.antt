@@ -7,7 +7,7 @@ use mathlib.Core.List.{List, [], ◌∷◌, ◌++◌, map, append_assoc, append-
 use native.Mathlib.Omega.{arith}
 use native.Mathlib.Numerals.{add-one}
 use lib.ListN.{length, take, drop, get_or, set, replicate, length-set, length-append}
-use lib.Seq.{sets, sets-eq, length-sets, take_at, take-suc, take-suc-set, take-set-lt, drop-set-lt, length-take-le, append_snoc, take_all}
+use lib.Seq.{sets, sets-eq, length-sets, take_at, take-suc-set, take-set-lt, drop-set-lt, length-take-le, append_snoc, take_all}
 use Rattle.lists.specs.Lists.{keep, any, zip_by, concat_map, Every}
 use Rattle.lists.proofs.Tests.{or_assoc, or_false}
 use Rattle.lists.proofs.Loops.{rest-cons, rest_end}
@@ -25,23 +25,18 @@ module _ (local : ℕ) (e : Entry) (ds : List Departure) (n : ℕ) where
   marking out j = take j out ++ zip_by (or_holds local e) (drop j (take n out)) (drop j ds)
 
   module _ (out : List Bool) (j : ℕ) (h₂ : n ≤ length out) (h₃ : length ds ≡ n) where
-    pub mark_kept : (d : Departure) → j < n → get_or out j false ≡ true → marking out (j + 1) ≡ marking out j
-    mark_kept d h₁ t =
-        rw (rest-cons false out j n h₁ h₂, rest_more d ds j (omega (arith, h₃)), add-one j, take-suc out j false (omega arith), t, append_snoc (take j out) true)
-
-    pub mark_new : (d : Departure) (y : Bool) → j < n → get_or out j false ≡ false → y ≡ holds local (get_or ds j d) e → marking (set out j y) (j + 1) ≡ marking out j
-    mark_new d y h₁ t q =
+    pub mark_next : (d : Departure) (y : Bool) → j < n → y ≡ get_or out j false || holds local (get_or ds j d) e → marking (set out j y) (j + 1) ≡ marking out j
+    mark_next d y h₁ q =
         rw (
-          q,
-          take-set-lt n out j (holds local (get_or ds j d) e) h₁,
-          drop-set-lt (j + 1) (take n out) j (holds local (get_or ds j d) e) (omega arith),
+          take-set-lt n out j y h₁,
+          drop-set-lt (j + 1) (take n out) j y (omega arith),
           rest-cons false out j n h₁ h₂,
           rest_more d ds j (omega (arith, h₃)),
-          t,
           add-one j,
-          take-suc-set out j (holds local (get_or ds j d) e) (omega arith),
-          append_snoc (take j out) (holds local (get_or ds j d) e),
-        )
+          take-suc-set out j y (omega arith),
+          append_snoc (take j out) y,
+          q,
+        ) refl
 
     pub mark_end : n ≤ j → j ≤ n → marking out j ≡ take n out
     mark_end h₁ h₄ =

@@ -1,6 +1,6 @@
 -- Prune on a ledger: each verdict is one turn of the pass, and the branches give what the rules say, from what the parts did.
 -- Assumes nothing.
-use Prim.Native.Nat.{ℕ, zero, suc, ◌+◌, ◌*◌, ◌≤◌, ◌<◌}
+use Prim.Native.Nat.{ℕ, ◌+◌, ◌*◌, ◌≤◌, ◌<◌}
 use mathlib.Core.Path.{◌≡◌, refl, sym, ap, ◌∙◌, ap₂}
 use mathlib.Core.Bool.{Bool, true, false, not}
 use mathlib.Core.List.{List, [], ◌∷◌, ◌++◌, map}
@@ -10,7 +10,7 @@ use borrow.Author.Tests.{ltb-false}
 use lib.Dec.{ltb}
 use lib.ListN.{length, take, drop, set, length-map}
 use lib.Seq.{sets, sets-eq}
-use Rattle.lists.specs.Lists.{keep, keep_by, any, zip_by, concat_map, Every}
+use Rattle.lists.specs.Lists.{keep, keep_by, any, concat_map, Every}
 use Rattle.lists.proofs.Keep.{length-keep}
 use Rattle.lists.proofs.Distinct.{keep_by_test}
 use Rattle.rules.specs.Numbers.{is_time, is_shard, is_span}
@@ -20,6 +20,9 @@ use Rattle.rules.specs.Outcome.{Outcome, ◌gives◌then◌}
 use Rattle.rules.specs.Calls.{prune_refusal, after_prune}
 use Rattle.rules.specs.Good.{GoodDeparture}
 use Rattle.rules.proofs.Kept.{pruned-kept}
+use Rattle.std.specs.Prelude.{Ok}
+use Rattle.types.specs.declared.refusal.Refusal.{Refusal}
+use Rattle.types.specs.Refusals.{refusal_number}
 use Rattle.types.specs.Transactions.{number_of}
 use Rattle.entry.specs.declared.Entry.{Entry}
 use Rattle.entry.specs.Entry.{plain_entry}
@@ -37,16 +40,15 @@ use Rattle.judge.specs.declared.verdicts.Verdict.{Verdict}
 use Rattle.judge.specs.declared.verdicts.Verdict.TheVariants.{Stands, Falls, Reported}
 use Rattle.judge.specs.View.{Shows}
 use Rattle.judge.specs.Verdict.{Says, Faces}
-use Rattle.judge.proofs.Seeing as seeing
 use Rattle.ledger.specs.declared.Ledger.{Ledger}
 use Rattle.ledger.specs.Contents.{entries_of, contents, Held, with_parts, lying_at}
-use Rattle.ledger.specs.Meets.{Meets, says_no}
+use Rattle.ledger.specs.Meets.{Meets, saying, says_no}
 use Rattle.ledger.proofs.Places.{entries-length, entry_at}
 use Rattle.ledger.proofs.Lift.{Became, became, kept-rows}
 use Rattle.ledger.proofs.Meeting.{refuses, passes}
 use Rattle.sweeps.specs.declared.prune.Pruning.{Pruning}
 use Rattle.store.specs.Leaving.{unnamed_by}
-use Rattle.sweeps.specs.Pruning.{or_holds, Columns, begun, Judges, refusal_by}
+use Rattle.sweeps.specs.Pruning.{Needed, begun, Judges, refusal_by}
 use Rattle.sweeps.proofs.Several.{unnamed_index}
 use Rattle.sweeps.proofs.Pruning.{Judging, judging_none, turn_stands, turn_idle, turn_falls, turn_reported, all_stay, all-needed, all-rows, all-count, all-gone}
 
@@ -127,14 +129,13 @@ module _ (l : Ledger) (h : Held l) (now : ℕ) where
       judgement = said (contents l) (record { local = refl; validity = refl; leg_span = refl; view = s })
 
       pub pass_stands : x ≡ Stands → (needed : List Bool) (some_unneeded : Bool) → length needed ≡ 32 → some_unneeded ≡ any not (take v.len needed) →
-          ((ds : List plain.Departure) → Columns ds v.shards v.zeros v.cuts v.len → take v.len needed ≡ zip_by (or_holds l.local.0 (plain_entry here)) (take v.len r.needed) ds) →
+          Needed l.local.0 (plain_entry here) v r.needed needed →
           JudgingIn l now (record { stay = set r.stay i true; needed = needed; some_unneeded = some_unneeded; words = r.words; reports = r.reports; fallen = r.fallen }) (i + 1)
       unfolding contents
       pass_stands e needed some_unneeded size o n =
-          let count = seeing.count (on_file l.departures) now v s in
           turn_stands (stands (contents l) now) (reporting l now) (row_of l now) (holding l now) (entries_of l) (on_file l.departures) file-few r i k entries-few
-          (plain_entry here) (omega (arith, entries-length l h)) cons needed some_unneeded size (λ z. rw count (sym o ∙ z)) (rw e at judgement)
-          (rw count (n (on_file l.departures) (record { good = s.good; shards = s.shards; zeros = s.zeros; cuts = s.cuts })))
+          (plain_entry here) (omega (arith, entries-length l h)) cons needed some_unneeded size (λ z. rw s.count (sym o ∙ z)) (rw e at judgement)
+          (rw s.count (n (on_file l.departures) now s))
 
       pub pass_idle : x ≡ Stands → r.some_unneeded ≡ false →
           JudgingIn l now (record { stay = set r.stay i true; needed = r.needed; some_unneeded = r.some_unneeded; words = r.words; reports = r.reports; fallen = r.fallen }) (i + 1)
@@ -203,10 +204,9 @@ module _ (l : Ledger) (h : Held l) (now : ℕ) where
       same_refusal : prune_refusal now (length lent) (contents l) ≡ refusal_by now c.reports (length lent)
       same_refusal = rw words_size
 
-      pub prune-refused : (m : ℕ) → m ≡ refusal_by now c.reports (length lent) → 0 < m → Meets (after_prune now (length lent) (contents l)) lent lent (says_no m l)
+      pub prune-refused : (m : Refusal) → refusal_number m ≡ refusal_by now c.reports (length lent) → Meets (after_prune now (length lent) (contents l)) lent lent (says_no m l)
       unfolding after_prune
-      prune-refused zero e q = absurd (omega arith)
-      prune-refused (suc n) e q = refuses n l lent (prune_refusal now (length lent) (contents l)) _ (says_no (suc n) l) h (same_refusal ∙ sym e) refl
+      prune-refused m e = refuses m l lent (prune_refusal now (length lent) (contents l)) _ h (same_refusal ∙ sym e)
 
       module _ (r : Roster) (k : Retained l.roster (take l.roster.len c.stay) r) (x : Issuers)
           (i : issuers.Holds (unnamed_by (take l.roster.len c.stay) (keys_of l.roster) (pairs_in l.issuers)) x) (f : Departures)
@@ -231,16 +231,16 @@ module _ (l : Ledger) (h : Held l) (now : ℕ) where
             (unnamed_index (stands (contents l) now) l h (take l.roster.len c.stay) x j.stay i))
             left-file (pruned-kept now (contents l) h.good)
 
-        pub prune-done : refusal_by now c.reports (length lent) ≡ 0 → (after : List ℕ) → after ≡ sets lent 0 (take (3 * c.reports) c.words) →
+        pub prune-done : 0 ≡ refusal_by now c.reports (length lent) → (after : List ℕ) → after ≡ sets lent 0 (take (3 * c.reports) c.words) →
             Meets (after_prune now (length lent) (contents l)) lent after
-            (record { refused = 0; answers = c.reports ∷ c.fallen ∷ 0 ∷ []; ledger = with_parts l l.rebuilt r l.entries x f })
+            (saying (Ok (c.reports ∷ c.fallen ∷ 0 ∷ [])) (with_parts l l.rebuilt r l.entries x f))
         unfolding after_prune
         prune-done q after w =
             let p = contents l in
             let ws = concat_map report_words (reports now p) in
             let o : Outcome = record { refused = 0; answers = length (reports now p) ∷ length (fallen now p) ∷ []; ledger = pruned now p; words = ws } in
-            let none : prune_refusal now (length lent) p ≡ 0 = same_refusal ∙ q in
-            let front : sets lent 0 ws ≡ ws ++ drop (length ws) lent = sets-eq ws lent 0 (omega (arith, words_size, enough_room now c.reports (length lent) q)) ∙ ap (λ n. ws ++ drop n lent) (zero-add (length ws)) in
+            let none : prune_refusal now (length lent) p ≡ 0 = same_refusal ∙ sym q in
+            let front : sets lent 0 ws ≡ ws ++ drop (length ws) lent = sets-eq ws lent 0 (omega (arith, words_size, enough_room now c.reports (length lent) (sym q))) ∙ ap (λ n. ws ++ drop n lent) (zero-add (length ws)) in
             passes (prune_refusal now (length lent) p) p o lent after _ none
             (record {
               refused = refl;

@@ -2,16 +2,14 @@
 ghost use Rattle.std.specs.Prelude.{◌≤◌, ◌≡◌, cond, length, take};
 ghost use Rattle.std.proofs.lemmas.List.Edits.{sets};
 ghost use Rattle.rules.specs.Calls.{after_closes};
-ghost use Rattle.ledger.specs.declared.Ledger.{Ledger};
 ghost use Rattle.ledger.specs.Contents.{Held, contents};
 ghost use Rattle.ledger.specs.Meets.{Meets};
-ghost use Rattle.store.specs.Roster.{Sound, keys_of};
-ghost use Rattle.sweeps.specs.Closing.{listed_by, Listable, Closes};
+ghost use Rattle.sweeps.specs.Closing.{listed_by, Judges};
 
 use ledger::{Done, Ledger};
-use store::issuers::Issuers;
 use store::leaving::without_dropped;
-use store::roster::{Roster, transaction_at};
+use types::Transaction;
+use types::refusal::Refusal;
 use types::widths::CLOSE_WORDS;
 
 // By place in the roster who stays and the decision of each, and how many do not stay.
@@ -19,7 +17,7 @@ use types::widths::CLOSE_WORDS;
 pub struct Closing {
     pub stay: [bool; 48],
     pub codes: [u64; 48],
-    pub count: u64,
+    pub count: usize,
 }
 
 // Aborted if any mark was a return, else Accept.
@@ -29,57 +27,41 @@ fn decision(returned: bool) -> u64
     if returned { 2 } else { 1 }
 }
 
+impl Closing {
+    // Each entry judged.
+    fn of(ledger: &Ledger) -> Closing
+        requires { Held ledger.now }
+        ensures { Judges ledger.now result }
+    {
+        let mut c = Closing {
+            stay: [false; 48],
+            codes: [0; 48],
+            count: 0,
+        };
+        for i in 0..ledger.roster.len {
+            let slot = ledger.roster.slots[i];
+            let e = ledger.entries[slot];
+            let closed = e.is_closed(ledger.local);
+            c.stay[i] = !closed;
+            c.codes[i] = decision(e.returned);
+            c.count += usize::from(closed);
+        }
+        c
+    }
+}
+
 // Transaction and code of each whose flag is down, to the front of the lent list.
 fn list_closed(keys: [u64; 48], codes: [u64; 48], stay: [bool; 48], n: usize, lent: &mut [u64])
     requires { (n ≤ 48) × (length (listed_by (take n stay) (take n keys) (take n codes)) ≤ length lent.old) }
     ensures { lent.new ≡ sets lent.old 0 (listed_by (take n stay) (take n keys) (take n codes)) }
 {
-    let mut at: usize = 0;
-    let mut i: usize = 0;
-    while i < n {
-        if stay[i] {
-            i += 1;
-        } else {
-            let tx = transaction_at(&keys, i);
-            tx.put(lent, at);
+    let mut at = 0;
+    for i in 0..n {
+        if !stay[i] {
+            Transaction(keys[i]).put(lent, at);
             lent[at + 1] = codes[i];
-            at += 2;
-            i += 1;
+            at += CLOSE_WORDS;
         }
-    }
-}
-
-// What closes says, and the parts of the ledger that it changes.
-#[derive(Clone, Copy)]
-pub struct Closed {
-    pub refused: u64,
-    pub answer: u64,
-    pub roster: Roster,
-    pub issuers: Issuers,
-}
-
-// What was judged carried out, unless the lent list is too short: of any ledger that has these parts and was judged so.
-fn apply_closing(c: Closing, roster: Roster, issuers: Issuers, lent: &mut [u64]) -> Closed
-    requires { Listable c roster issuers }
-    ensures { Closes c roster issuers lent.old lent.new result }
-{
-    if (lent.len() as u64) < (CLOSE_WORDS as u64) * c.count {
-        return Closed {
-            refused: 9,
-            answer: 0,
-            roster,
-            issuers,
-        };
-    }
-    let stay = c.stay;
-    let codes = c.codes;
-    let keys = roster.keys;
-    list_closed(keys, codes, stay, roster.len, lent);
-    Closed {
-        refused: 0,
-        answer: c.count,
-        roster: roster.retain(stay),
-        issuers: without_dropped(issuers, roster, stay),
     }
 }
 
@@ -88,36 +70,19 @@ pub fn closes(mut ledger: Ledger, lent: &mut [u64]) -> Done
     requires { Held ledger }
     ensures { Meets (after_closes (length lent.old) (contents ledger)) lent.old lent.new result }
 {
-    let local = ledger.local;
-    let roster = ledger.roster;
-    let n = roster.len;
-    let mut c = Closing {
-        stay: [false; 48],
-        codes: [0u64; 48],
-        count: 0,
-    };
-    let mut i: usize = 0;
-    while i < n {
-        let slot = roster.slots[i];
-        let e = ledger.entries[slot];
-        c.codes[i] = decision(e.returned);
-        if e.is_closed(local) {
-            c.stay[i] = false;
-            c.count += 1;
-            i += 1;
-        } else {
-            c.stay[i] = true;
-            i += 1;
-        }
+    let c = Closing::of(&ledger);
+    if lent.len() < CLOSE_WORDS * c.count {
+        return Done {
+            said: Err(Refusal::ListShort),
+            ledger,
+        };
     }
-    let closed = apply_closing(c, roster, ledger.issuers, lent);
-    let left = closed.roster;
-    let unnamed = closed.issuers;
-    ledger.roster = left;
-    ledger.issuers = unnamed;
+    let roster = ledger.roster;
+    list_closed(roster.keys, c.codes, c.stay, roster.len, lent);
+    ledger.roster = roster.retain(c.stay);
+    ledger.issuers = without_dropped(ledger.issuers, roster, c.stay);
     Done {
-        refused: closed.refused,
-        answers: [closed.answer, 0, 0],
+        said: Ok([c.count as u64, 0, 0]),
         ledger,
     }
 }

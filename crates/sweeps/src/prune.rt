@@ -1,28 +1,25 @@
 // Prune: the entries that no longer stand fall, some with a report, and the departures that no entry needs any more go with them.
-ghost use Rattle.std.specs.Prelude.{◌+◌, ◌≤◌, ◌<◌, ◌≡◌, true, not, [], ◌∷◌, ◌++◌, length, take};
+ghost use Rattle.std.specs.Prelude.{◌+◌, ◌≤◌, ◌≡◌, true, not, [], ◌∷◌, ◌++◌, length, take};
 ghost use Rattle.std.proofs.lemmas.List.Edits.{sets};
-ghost use Rattle.lists.specs.Lists.{any, Every};
-ghost use Rattle.rules.specs.Plain as plain;
+ghost use Rattle.lists.specs.Lists.{any};
 ghost use Rattle.rules.specs.Numbers.{is_shard};
 ghost use Rattle.rules.specs.Calls.{after_prune};
 ghost use Rattle.rules.specs.Words.{transaction_words};
 ghost use Rattle.rules.specs.Widths.{report_size, report_room};
+ghost use Rattle.types.specs.Refusals.{refused_in};
 ghost use Rattle.types.specs.Transactions.{number_of};
 ghost use Rattle.entry.specs.Entry.{plain_entry, Fits};
-ghost use Rattle.ledger.specs.declared.Ledger.{Ledger};
 ghost use Rattle.ledger.specs.Contents.{Held, contents};
 ghost use Rattle.ledger.specs.Meets.{Meets};
-ghost use Rattle.sweeps.specs.Pruning.{begun, refusal_by, Prunable, Needed, Prunes};
+ghost use Rattle.sweeps.specs.Pruning.{begun, refusal_by, Needed, Judges};
 
 use entry::Entry;
 use judge::routes::needs;
 use judge::verdicts::{Verdict, judge};
 use judge::views::View;
 use ledger::{Done, Ledger};
-use store::departures::Departures;
-use store::issuers::Issuers;
 use store::leaving::without_dropped;
-use store::roster::Roster;
+use types::refusal::Refusal;
 use types::widths::{REPORT_WORDS, REPORTS_ROOM};
 use types::{Shard, Time, Transaction, is_time};
 
@@ -38,48 +35,16 @@ pub struct Pruning {
     pub fallen: u64,
 }
 
-impl Pruning {
-    fn begun() -> Pruning
-        ensures { result ≡ begun }
-    {
-        Pruning {
-            stay: [false; 48],
-            needed: [false; 32],
-            some_unneeded: true,
-            words: [0u64; REPORTS_ROOM],
-            reports: 0,
-            fallen: 0,
-        }
-    }
-}
-
-// The flags of the first n departures, up also for those that the entry needs.
-fn with_needs<'a>(
-    flags: [bool; 32],
-    e: Entry,
-    local: Shard,
-    shards: &'a [u64; 32],
-    zeros: &'a [u32; 32],
-    cuts: &'a [u64; 32],
-    n: usize,
-) -> [bool; 32]
-    requires fits { Fits e }
+// The flags of the departures, up also for those that the entry needs.
+fn with_needs(mut flags: [bool; 32], e: &Entry, local: Shard, view: &View) -> [bool; 32]
+    requires fits { Fits e.now }
     requires local_value { is_shard local.0 ≡ true }
-    requires n_bound { (n ≤ 32) × (length shards.now ≡ 32) × (length zeros.now ≡ 32) × (length cuts.now ≡ 32) × Every (λ z. z < 64) zeros.now }
-    ensures { Needed local.0 (plain_entry e) shards.now zeros.now cuts.now n flags result }
+    ensures { Needed local.0 (plain_entry e.now) view.now flags result }
 {
-    let mut out = flags;
-    let mut j: usize = 0;
-    while j < n {
-        let raised = out[j];
-        if raised {
-            j += 1;
-        } else {
-            out[j] = needs(e, local, Shard(shards[j]), zeros[j], Time(cuts[j]));
-            j += 1;
-        }
+    for j in 0..view.len {
+        flags[j] = flags[j] || needs(e, local, view.items[j]);
     }
-    out
+    flags
 }
 
 // Whether some flag of the first n is down.
@@ -87,14 +52,7 @@ fn some_down(flags: [bool; 32], n: usize) -> bool
     requires { n ≤ 32 }
     ensures { result ≡ any not (take n flags) }
 {
-    let mut j: usize = 0;
-    while j < n {
-        if !flags[j] {
-            return true;
-        }
-        j += 1;
-    }
-    false
+    flags[..n].iter().any(|is_up| !*is_up)
 }
 
 // A report's words put down at a place.
@@ -113,129 +71,95 @@ fn put_report(
     words[at + 2] = charge;
 }
 
+impl Pruning {
+    fn begun() -> Pruning
+        ensures { result ≡ begun }
+    {
+        Pruning {
+            stay: [false; 48],
+            needed: [false; 32],
+            some_unneeded: true,
+            words: [0; REPORTS_ROOM],
+            reports: 0,
+            fallen: 0,
+        }
+    }
+
+    // One pass over the roster judges each entry, and puts what it needs or reports beside; once every departure is needed, no more is
+    // asked.
+    fn of(ledger: &Ledger, time: Time) -> Pruning
+        requires { Held ledger.now }
+        ensures { Judges ledger.now time.0 result }
+    {
+        let local = ledger.local;
+        let view = View::of(ledger.departures, time);
+        let mut p = Pruning::begun();
+        for i in 0..ledger.roster.len {
+            let slot = ledger.roster.slots[i];
+            let e = ledger.entries[slot];
+            match judge(&e, local, ledger.validity, ledger.leg_span, time, &view) {
+                Verdict::Stands => {
+                    p.stay[i] = true;
+                    if p.some_unneeded {
+                        p.needed = with_needs(p.needed, &e, local, &view);
+                        p.some_unneeded = some_down(p.needed, view.len);
+                    }
+                }
+                Verdict::Falls => p.fallen += 1,
+                Verdict::Reported(covered) => {
+                    let at = REPORT_WORDS * p.reports;
+                    put_report(&mut p.words, at, e.tx, covered, e.charge);
+                    p.reports += 1;
+                    p.fallen += 1;
+                }
+            }
+        }
+        p
+    }
+}
+
 // The first n words to the front of the lent list.
 fn write_reports(words: [u64; REPORTS_ROOM], n: usize, lent: &mut [u64])
     requires { (n ≤ report_room) × (n ≤ length lent.old) }
     ensures { lent.new ≡ sets lent.old 0 (take n words) }
 {
-    let mut i: usize = 0;
-    while i < n {
-        lent[i] = words[i];
-        i += 1;
-    }
+    lent[..n].copy_from_slice(&words[..n]);
 }
 
-// The number by which a prune is turned away, 0 for none.
-fn refusal(time: Time, reports: usize, room: usize) -> u64
+// The clock and the room for so many reports, by the table.
+fn check(time: Time, reports: usize, room: usize) -> Result<(), Refusal>
     requires { reports ≤ 48 }
-    ensures { result ≡ refusal_by time.0 reports room }
+    ensures { refused_in result ≡ refusal_by time.0 reports room }
 {
     if !is_time(time.0) {
-        return 3;
+        return Err(Refusal::NoTime);
     }
-    if room < REPORT_WORDS * reports { 9 } else { 0 }
+    if room < REPORT_WORDS * reports {
+        return Err(Refusal::ListShort);
+    }
+    Ok(())
 }
 
-// What a prune says, and the parts of the ledger that it changes.
-#[derive(Clone, Copy)]
-pub struct Pruned {
-    pub refused: u64,
-    pub answers: [u64; 3],
-    pub roster: Roster,
-    pub issuers: Issuers,
-    pub departures: Departures,
-}
-
-// What was judged carried out, unless the prune is turned away: of any ledger that has these parts and was judged so.
-fn apply_pruning(
-    p: Pruning,
-    roster: Roster,
-    issuers: Issuers,
-    departures: Departures,
-    time: Time,
-    lent: &mut [u64],
-) -> Pruned
-    requires { Prunable p roster issuers departures }
-    ensures { Prunes p roster issuers departures time.0 lent.old lent.new result }
-{
-    let refused = refusal(time, p.reports, lent.len());
-    if 0 < refused {
-        return Pruned {
-            refused,
-            answers: [0, 0, 0],
-            roster,
-            issuers,
-            departures,
-        };
-    }
-    let stay = p.stay;
-    let needed = p.needed;
-    let words = p.words;
-    write_reports(words, REPORT_WORDS * p.reports, lent);
-    Pruned {
-        refused: 0,
-        answers: [p.reports as u64, p.fallen, 0],
-        roster: roster.retain(stay),
-        issuers: without_dropped(issuers, roster, stay),
-        departures: departures.retain(needed),
-    }
-}
-
-// Lets fall those that no longer stand, writes the reports, and answers how many it wrote and how many fell. One pass over the roster
-// judges each entry, and puts what it needs or reports beside; once every departure is needed, no more is asked.
+// Lets fall those that no longer stand, writes the reports, and answers how many it wrote and how many fell.
 pub fn prune(mut ledger: Ledger, time: Time, lent: &mut [u64]) -> Done
     requires { Held ledger }
     ensures { Meets (after_prune time.0 (length lent.old) (contents ledger)) lent.old lent.new result }
 {
-    let local = ledger.local;
-    let roster = ledger.roster;
-    let v = View::of(ledger.departures, time);
-    let mut p = Pruning::begun();
-    let mut i: usize = 0;
-    while i < roster.len {
-        let slot = roster.slots[i];
-        let e = ledger.entries[slot];
-        let verdict = judge(
-            e,
-            local,
-            ledger.validity,
-            ledger.leg_span,
-            time,
-            &v.shards,
-            &v.zeros,
-            &v.cuts,
-            &v.readable,
-            v.len,
-        );
-        match verdict {
-            Verdict::Stands => {
-                p.stay[i] = true;
-                if p.some_unneeded {
-                    p.needed = with_needs(p.needed, e, local, &v.shards, &v.zeros, &v.cuts, v.len);
-                    p.some_unneeded = some_down(p.needed, v.len);
-                }
-            }
-            Verdict::Falls => p.fallen += 1,
-            Verdict::Reported(covered) => {
-                let at = REPORT_WORDS * p.reports;
-                put_report(&mut p.words, at, e.tx, covered, e.charge);
-                p.reports += 1;
-                p.fallen += 1;
-            }
-        }
-        i += 1;
+    let p = Pruning::of(&ledger, time);
+    if let Err(refusal) = check(time, p.reports, lent.len()) {
+        return Done {
+            said: Err(refusal),
+            ledger,
+        };
     }
-    let done = apply_pruning(p, roster, ledger.issuers, ledger.departures, time, lent);
-    let left = done.roster;
-    let unnamed = done.issuers;
-    let remaining = done.departures;
+    write_reports(p.words, REPORT_WORDS * p.reports, lent);
+    let roster = ledger.roster;
+    let left = roster.retain(p.stay);
     ledger.roster = left;
-    ledger.issuers = unnamed;
-    ledger.departures = remaining;
-    let answers = done.answers;
+    ledger.issuers = without_dropped(ledger.issuers, roster, p.stay);
+    ledger.departures = ledger.departures.retain(p.needed);
     Done {
-        refused: done.refused,
-        answers,
+        said: Ok([p.reports as u64, p.fallen, 0]),
         ledger,
     }
 }

@@ -1,10 +1,6 @@
 -- What is written and what is still to come is what the whole gives.
-use Rattle.std.proofs.Common.{◌-◌}
 use Rattle.sweeps.proofs.Listing.{Listing}
 use Rattle.sweeps.proofs.closes.list_closed.Given as goal
 
 abbrev pub invariant-loop-i : goal.invariant-loop-i
 invariant-loop-i l = Listing l.keys l.codes l.stay l.n l.initial.lent l.lent l.at l.i
-
-abbrev pub decreases-loop-i : goal.decreases-loop-i
-decreases-loop-i l = l.n - l.i
