@@ -1,14 +1,14 @@
 -- Admission: what each line of its table and each branch after it gives, from what the parts did.
 -- Assumes nothing.
 use Rattle.std.specs.Prelude.{Some, None}
-use Prim.Native.Nat.{ℕ, zero, suc, ◌-◌, ◌≤◌, ◌<◌}
+use Prim.Native.Nat.{ℕ, suc, ◌-◌, ◌≤◌, ◌<◌}
 use mathlib.Core.Path.{◌≡◌, refl, sym, ap, ◌∙◌}
 use mathlib.Core.Bool.{Bool, true, false, not}
 use mathlib.Core.List.{List, [], ◌∷◌}
 use native.Mathlib.Omega.{arith}
-use lib.Dec.{eqb, ltb, leb}
+use lib.Dec.{eqb, leb}
 use lib.ListN.{length, set}
-use borrow.Author.Tests.{lt-ltb, le-ltb, ltb-true, le-leb, lt-leb, leb-true, leb-false}
+use borrow.Author.Tests.{lt-ltb, le-ltb, ltb-true, le-leb, lt-leb, leb-true}
 use Rattle.lists.specs.Lists.{Every, has, include, include_all}
 use Rattle.lists.specs.Arrays.{place, rank}
 use Rattle.lists.proofs.Tests.{by_cond, same_test}
@@ -22,7 +22,7 @@ use Rattle.rules.specs.Index.{pair_key, pairs_of, index}
 use Rattle.rules.specs.Outcome.{Outcome, done, ◌gives◌then◌, yes_no}
 use Rattle.rules.specs.Calls.{admission, no_room_for, admission_refusal, after_admission}
 use Rattle.rules.specs.Good.{Holds, Good}
-use Rattle.rules.proofs.Kept.{step-good, passed}
+use Rattle.rules.proofs.Kept.{step-good}
 use Rattle.rules.proofs.Named.{IsOfWord, index-size, index_rises, good-words}
 use Rattle.rules.proofs.Reindex.{index_of-include}
 use Rattle.types.specs.declared.refusal.Refusal.{Refusal}

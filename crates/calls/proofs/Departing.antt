@@ -1,18 +1,22 @@
 -- Terminal and stamp: the departures on file changed, all else as it was.
 -- Assumes nothing.
-use Prim.Native.Nat.{ℕ, zero, suc, ◌≤◌, ◌<◌}
+use Prim.Native.Nat.{ℕ, suc, ◌≤◌}
 use mathlib.Core.Path.{◌≡◌, refl, sym, ap, ◌∙◌}
-use mathlib.Core.Bool.{Bool, true, false, cond, not, ◌&&◌, ◌||◌}
-use mathlib.Core.List.{[]}
+use mathlib.Core.Bool.{Bool, true, false, cond, not, ◌&&◌, ◌||◌, true≢false}
+use mathlib.Core.List.{List, []}
 use native.Mathlib.Omega.{arith}
 use lib.Dec.{eqb, ltb, leb}
 use lib.ListN.{length}
-use borrow.Author.Tests.{eq-eqb, ne_eqb, lt-ltb, le-ltb, lt-leb, ltb-true, leb-false, not-true}
+use borrow.Author.Tests.{eq-eqb, ne_eqb, lt-ltb, lt-leb, ltb-true, leb-false, not-true}
+use Rattle.std.specs.Prelude.{Option, Some, None, is_some}
+use Rattle.lists.specs.Arrays.{place}
+use Rattle.lists.proofs.Loops.{located, missing}
 use Rattle.lists.proofs.Tests.{same_test}
 use Rattle.lists.proofs.Order.{ascending-include}
 use Rattle.lists.specs.Lists.{at, has, change}
 use Rattle.lists.proofs.Keep.{length-change_if}
 use Rattle.rules.specs.Numbers.{is_time, is_shard}
+use Rattle.rules.specs.Plain as plain
 use Rattle.rules.specs.Plain.{shard_of, with_departures}
 use Rattle.rules.specs.Outcome.{done, ◌gives◌then◌}
 use Rattle.rules.specs.Calls.{terminal, stamp, stamped, departed, terminal_refusal, after_terminal, stamp_refusal, after_stamp}
@@ -141,3 +145,12 @@ room-known n k h = rw h
 
 pub room_new : (n m : ℕ) (k : Bool) → k ≡ false → m ≡ n → ltb n 32 ≡ k || not (leb 32 m)
 room_new n m k h e = rw (h, e) (same_test (ltb n 32) (not (leb 32 n)) (λ t. ap not (lt-leb 32 n (ltb-true n 32 t))) (λ t. lt-ltb n 32 (leb-false 32 n (not-true (leb 32 n) t))))
+
+-- what the search for the shard says
+pub stands_by : (l : List plain.Departure) (shard : ℕ) (f : Option ℕ) → f ≡ place (at shard_of shard) 0 l → is_some f ≡ true → has shard_of shard l ≡ true
+stands_by l shard None e h = absurd (true≢false (sym h))
+stands_by l shard (Some k) e h = (located shard_of shard l k (sym e)).known
+
+pub lacks_by : (l : List plain.Departure) (shard : ℕ) (f : Option ℕ) → f ≡ place (at shard_of shard) 0 l → is_some f ≡ false → has shard_of shard l ≡ false
+lacks_by l shard None e h = (missing shard_of shard l (sym e)).known
+lacks_by l shard (Some k) e h = absurd (true≢false h)

@@ -30,9 +30,9 @@ use Rattle.store.specs.Roster.{keys_of, is, LiesIn, Removed}
 use Rattle.store.specs.Issuers as issuers
 use Rattle.store.specs.Issuers.{is_not, pairs_in}
 use Rattle.ledger.specs.declared.Ledger.{Ledger}
-use Rattle.ledger.specs.Contents.{contents, Held, with_parts, storing, slot_at, lying_at}
+use Rattle.ledger.specs.Contents.{contents, Held, with_parts, storing, lying_at}
 use Rattle.ledger.specs.Meets.{Meets, says, says_no}
-use Rattle.ledger.proofs.Places.{found_at, not_found}
+use Rattle.ledger.proofs.Places.{Owed, owed_in, found_at, not_found}
 use Rattle.ledger.proofs.Lift.{changed, let_go}
 use Rattle.ledger.proofs.Meeting.{refuses, passes, answers, silent, good-after, stays}
 
@@ -103,16 +103,19 @@ module _ (l : Ledger) (h : Held l) (t : ℕ) where
     mark_unknown e =
         rw ((not_found l h t e).changed (marked (contents l).local r is_return)) (silent l (contents l) (says 0 l) (stays l h (contents l) refl) refl)
 
-    pub mark_owed : (k : ℕ) (d x : Entry) → place (is t) 0 (keys_of l.roster) ≡ Some k →
-        Means (marked l.local.0 r is_return (plain_entry (lying_at l k d))) x →
-        Meets (after_mark r t is_return (contents l)) [] [] (says 0 (storing l (slot_at l k) x))
+    pub mark_owed : (s : ℕ) → LiesIn l.roster t s → (d x : Entry) → Means (marked l.local.0 r is_return (plain_entry (get_or l.entries s d))) x →
+        Meets (after_mark r t is_return (contents l)) [] [] (says 0 (storing l s x))
     unfolding after_mark contents
-    mark_owed k d x e m =
-        silent _ _ _
-        (changed l h t k x d (marked l.local.0 r is_return) e m.fits m.plain
+    mark_owed s w d x m =
+        let f = marked l.local.0 r is_return in
+        let there : plain_entry x ≡ f (plain_entry (lying_at l w.at d)) = m.plain ∙ ap (λ y. f (plain_entry (get_or l.entries y d))) w.slot in
+        let o = done [] (with_entries (change transaction_of t f (contents l).entries) (contents l)) in
+        subst (λ y. Meets o [] [] (says 0 (storing l y x))) (sym w.slot)
+        (silent _ _ _
+        (changed l h t w.at x d f w.found m.fits there
         (λ y. by_cond (λ z. z.terms ≡ y.terms) (is_settling y.part && issues l.local.0 r y.terms) _ y (λ _. refl) (λ _. refl))
         (marked-kept is_return))
-        refl
+        refl)
       where
         marked-kept : (b : Bool) → Good (with_entries (change transaction_of t (marked l.local.0 r b) (contents l).entries) (contents l))
         marked-kept true = step-good (returned r t) tt (contents l) h.good
@@ -130,37 +133,41 @@ module _ (l : Ledger) (h : Held l) (t : ℕ) where
         let w = not_found l h t e in
         rw (q, w.got, w.changed (read_absent a)) (answers 0 l (contents l) (says 0 l) (stays l h (contents l) refl) refl)
 
-    module _ (k : ℕ) (d : Entry) (q : is_shard a.shard ≡ true) (e : place (is t) 0 (keys_of l.roster) ≡ Some k) where
+    module _ (s : ℕ) (lies : LiesIn l.roster t s) (d : Entry) (q : is_shard a.shard ≡ true) where
       abbrev old : Entry
-      old = lying_at l k d
+      old = get_or l.entries s d
+
+      there : Owed l t s
+      there = owed_in l h t s lies
 
       pub absence-read : is_read a (plain_entry old) ≡ true → Meets (after_absence t a (contents l)) [] [] (says 0 l)
       unfolding after_absence
       absence-read i =
-          let w = found_at l h t k e in
           let x = plain_entry old in
-          let same : read_absent a x ≡ x = ap (λ m. with_absences m x) (include-known absence_key a x.absences (w.good d).absence_order i) in
-          rw (q, w.got d, i, change_same transaction_of t (read_absent a) x (contents l).entries h.good.entries.rows.order (w.got d) same)
+          let same : read_absent a x ≡ x = ap (λ m. with_absences m x) (include-known absence_key a x.absences (there.good d).absence_order i) in
+          rw (q, there.got d, i, change_same transaction_of t (read_absent a) x (contents l).entries h.good.entries.rows.order (there.got d) same)
           (answers 0 l (contents l) (says 0 l) (stays l h (contents l) refl) refl)
 
       abbrev size : length (plain_entry old).absences ≡ old.absences_len
       unfolding plain_entry
-      size = length-absences old ((found_at l h t k e).fits d)
+      size = length-absences old (there.fits d)
 
       pub absence_full : is_read a (plain_entry old) ≡ false → 8 ≤ old.absences_len → Meets (after_absence t a (contents l)) [] [] (says_no AbsencesFull l)
       unfolding after_absence
       absence_full i f =
-          refuses AbsencesFull l [] (absence_refusal t a (contents l)) _ h (rw (q, (found_at l h t k e).got d, i, le-leb 8 (length (plain_entry old).absences) (omega (arith, size))))
+          refuses AbsencesFull l [] (absence_refusal t a (contents l)) _ h (rw (q, there.got d, i, le-leb 8 (length (plain_entry old).absences) (omega (arith, size))))
 
       pub absence_new : is_read a (plain_entry old) ≡ false → old.absences_len < 8 → is_word a.key ≡ true → (x : Entry) → Means (read_absent a (plain_entry old)) x →
-          Meets (after_absence t a (contents l)) [] [] (says 1 (storing l (slot_at l k) x))
+          Meets (after_absence t a (contents l)) [] [] (says 1 (storing l s x))
       unfolding after_absence
       absence_new i f w x m =
           let o = done (yes_no (is_new a (entry_of t (contents l))) ∷ []) (with_entries (change transaction_of t (read_absent a) (contents l).entries) (contents l)) in
-          let none : absence_refusal t a (contents l) ≡ 0 = rw (q, (found_at l h t k e).got d, i, lt-leb 8 (length (plain_entry old).absences) (omega (arith, size))) in
+          let none : absence_refusal t a (contents l) ≡ 0 = rw (q, there.got d, i, lt-leb 8 (length (plain_entry old).absences) (omega (arith, size))) in
           let g = good-after (absence_refusal t a (contents l)) (contents l) o none (step-good (absence t a.shard a.key) w (contents l) h.good) in
+          let new : plain_entry x ≡ read_absent a (plain_entry (lying_at l lies.at d)) = m.plain ∙ ap (λ y. read_absent a (plain_entry (get_or l.entries y d))) lies.slot in
           passes (absence_refusal t a (contents l)) (contents l) o [] [] _ none
-          (rw ((found_at l h t k e).got d, i) (answers 1 _ _ _ (changed l h t k x d (read_absent a) e m.fits m.plain (λ y. refl) g) refl))
+          (subst (λ y. Meets o [] [] (says 1 (storing l y x))) (sym lies.slot)
+          (rw (there.got d, i) (answers 1 _ _ _ (changed l h t lies.at x d (read_absent a) lies.found m.fits new (λ y. refl) g) refl)))
 
 -- there is room for one more absence
 pub room_for : (e : Entry) (a : Absence) → Fits e → Ascending absence_key (absences_of e) → e.absences_len < 8 → RoomForAbsence a e

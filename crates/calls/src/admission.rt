@@ -1,5 +1,5 @@
 // Admission: a committed transaction taken in.
-ghost use Rattle.std.specs.Prelude.{◌≡◌, []};
+ghost use Rattle.std.specs.Prelude.{◌≡◌, [], IfOk};
 ghost use Rattle.rules.specs.Calls.{after_admission};
 ghost use Rattle.store.specs.Issuers.{Holds};
 ghost use Rattle.ledger.specs.Contents.{Held, contents};
@@ -13,10 +13,7 @@ use ledger::{Done, Ledger};
 use store::issuers::Issuers;
 use types::refusal::Refusal;
 use types::{Shard, record_key};
-use words::admission::{
-    admission_formed, admission_placed, admission_timed, admission_transaction,
-};
-use words::taken::admitted;
+use words::admission::Admission;
 
 // The entry named under each record that it issued, from its last edge to its first.
 fn name_issued(mut issuers: Issuers, e: Entry, local: Shard) -> Issuers
@@ -32,19 +29,20 @@ fn name_issued(mut issuers: Issuers, e: Entry, local: Shard) -> Issuers
 }
 
 // The words of an admission, by the table.
-fn check(words: &[u64]) -> Result<(), Refusal>
-    ensures { refused_in result ≡ words_refusal words.now }
+fn check(words: &[u64]) -> Result<Admission<'_>, Refusal>
+    ensures refused { refused_in result ≡ words_refusal words.now }
+    ensures read { IfOk result (λ a. a.parts.words.now ≡ words.now) }
 {
-    if !admission_formed(words) {
+    let Some(admission) = Admission::read(words) else {
         return Err(Refusal::Malformed);
-    }
-    if !admission_timed(words) {
+    };
+    if !admission.is_timed() {
         return Err(Refusal::NoTime);
     }
-    if !admission_placed(words) {
+    if !admission.is_placed() {
         return Err(Refusal::NoShard);
     }
-    Ok(())
+    Ok(admission)
 }
 
 // Takes a transaction in, and answers 1; one that is owed already is skipped and answers 0.
@@ -52,13 +50,16 @@ pub fn register_committed(mut ledger: Ledger, words: &[u64]) -> Done
     requires { Held ledger }
     ensures { Meets (after_admission words.now (contents ledger)) [] [] result }
 {
-    if let Err(refusal) = check(words) {
-        return Done {
-            said: Err(refusal),
-            ledger,
-        };
-    }
-    let tx = admission_transaction(words);
+    let admission = match check(words) {
+        Ok(a) => a,
+        Err(refusal) => {
+            return Done {
+                said: Err(refusal),
+                ledger,
+            };
+        }
+    };
+    let tx = admission.transaction();
     let None = ledger.roster.find(tx) else {
         return Done {
             said: Ok([0; 3]),
@@ -66,13 +67,14 @@ pub fn register_committed(mut ledger: Ledger, words: &[u64]) -> Done
         };
     };
     let len = ledger.roster.len;
-    if 48 <= len {
+    let is_full = 48 <= len;
+    if is_full {
         return Done {
             said: Err(Refusal::EntriesFull),
             ledger,
         };
     }
-    let e = admitted(words, ledger.local);
+    let e = admission.entry(ledger.local);
     let slot = ledger.roster.slots[len];
     ledger.roster = ledger.roster.insert_at(ledger.roster.rank(tx), tx);
     ledger.issuers = name_issued(ledger.issuers, e, ledger.local);

@@ -56,7 +56,8 @@ pub fn record_absence(mut ledger: Ledger, tx: Transaction, shard: Shard, key: u6
             ledger,
         };
     }
-    if 8 <= e.absences_len {
+    let is_full = 8 <= e.absences_len;
+    if is_full {
         return Done {
             said: Err(Refusal::AbsencesFull),
             ledger,

@@ -23,12 +23,7 @@ fn is_until(stamped: u64, until: Time) -> bool
 
 // The words of a terminal, by the table.
 #[tactic(auto, unfolding(crate::specs::Terminals::words_refusal))]
-fn check_terminal(
-    shard: Shard,
-    cut: Time,
-    stamped: u64,
-    until: Time,
-) -> Result<(), Refusal>
+fn check_terminal(shard: Shard, cut: Time, stamped: u64, until: Time) -> Result<(), Refusal>
     ensures { refused_in result ≡ words_refusal shard.0 cut.0 stamped until.0 }
 {
     if 1 < stamped {
@@ -104,7 +99,8 @@ fn check_stamp(shard: Shard, until: Time) -> Result<(), Refusal>
     if !is_time(until.0) {
         return Err(Refusal::NoTime);
     }
-    if !is_shard(shard.0) {
+    let is_placed = is_shard(shard.0);
+    if !is_placed {
         return Err(Refusal::NoShard);
     }
     Ok(())

@@ -3,14 +3,14 @@
 use Prim.Native.Nat.{ℕ, ◌+◌, ◌≤◌, ◌<◌}
 use mathlib.Core.Path.{◌≡◌, sym, ap, ◌∙◌}
 use mathlib.Core.Bool.{true, false}
-use mathlib.Core.List.{List, [], ◌∷◌, ◌++◌, map}
+use mathlib.Core.List.{List, ◌∷◌, ◌++◌, map}
 use native.Mathlib.Omega.{arith}
 use lib.Dec.{eqb}
 use lib.ListN.{length, take, drop, get_or}
 use lib.Seq.{length-take-le, get_or-take}
 use Rattle.lists.specs.Lists.{keep, concat_map, include_all, set_of, total, self, part}
 use Rattle.lists.proofs.Distinct.{every_at}
-use Rattle.lists.proofs.Loops.{rest-cons, rest_end}
+use Rattle.lists.proofs.Cuts.{rest_more}
 use Rattle.rules.specs.Numbers.{record_key, owns, shard_for_route}
 use Rattle.rules.specs.Plain.{Edge, is_remote, shard_of}
 use Rattle.rules.specs.Readings.{claimants_of}
@@ -20,7 +20,8 @@ use Rattle.store.specs.declared.departures.Departures.{Departures}
 use Rattle.store.specs.Departures as departures
 use Rattle.store.specs.Departures.{on_file}
 use Rattle.entry.proofs.Edges.{edge_at, issuing, edges-cons, edges-end}
-use Rattle.shard_lists.specs.Sets.{Set, front, Holds, is_over, shards_over, departed_over, counterparts_at}
+use Rattle.shard_lists.specs.declared.set.Set.{Set}
+use Rattle.shard_lists.specs.Sets.{front, Holds, is_over, shards_over, departed_over, counterparts_at}
 use Rattle.lists.proofs.Sets.{keep_both, gathered_once}
 use Rattle.shard_lists.proofs.Gather.{Sofar, ended}
 
@@ -53,23 +54,15 @@ module _ (e : Entry) (fits : Fits e) where
 
 -- the remote routes still to come
 
-module _ (a : List ℕ) (n local : ℕ) (room : n ≤ length a) where
+module _ (a : List ℕ) (local : ℕ) where
   abbrev pub far_from : ℕ → List ℕ
-  far_from i = keep (is_remote local) (drop i (take n a))
+  far_from i = keep (is_remote local) (drop i a)
 
-  pub far_in : (i : ℕ) → i < n → owns local (get_or a i 0) ≡ false → far_from i ≡ get_or a i 0 ∷ far_from (i + 1)
-  far_in i h t = rw (rest-cons 0 a i n h room, t)
+  pub far_in : (i : ℕ) → i < length a → owns local (get_or a i 0) ≡ false → far_from i ≡ get_or a i 0 ∷ far_from (i + 1)
+  far_in i h t = rw (rest_more 0 a i h, t)
 
-  pub far_out : (i : ℕ) → i < n → owns local (get_or a i 0) ≡ true → far_from i ≡ far_from (i + 1)
-  far_out i h t = rw (rest-cons 0 a i n h room, t)
-
--- the trie's shards of routes still to come
-pub trie_next : (d : ℕ) (a : List ℕ) (i n : ℕ) → i < n → n ≤ length a →
-    map (shard_for_route d) (drop i (take n a)) ≡ shard_for_route d (get_or a i 0) ∷ map (shard_for_route d) (drop (i + 1) (take n a))
-trie_next d a i n h k = rw (rest-cons 0 a i n h k)
-
-pub trie_end : (d : ℕ) (a : List ℕ) (i n : ℕ) → n ≤ i → n ≤ length a → map (shard_for_route d) (drop i (take n a)) ≡ []
-trie_end d a i n h k = rw (rest_end a i n h k)
+  pub far_out : (i : ℕ) → i < length a → owns local (get_or a i 0) ≡ true → far_from i ≡ far_from (i + 1)
+  far_out i h t = rw (rest_more 0 a i h, t)
 
 -- the departed shards, and the trie's put in among them, are the counterparts
 pub counterparts_once : (e : Entry) (local : ℕ) (x : Departures) (d : ℕ) (far : List ℕ) (s t : Set) → departures.Rising x →

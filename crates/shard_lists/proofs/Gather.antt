@@ -9,7 +9,8 @@ use lib.ListN.{length, take, set, length-set}
 use lib.Seq.{length-take-le, take-suc-set, append_snoc}
 use Rattle.lists.specs.Lists.{include, include_all, self, set_of}
 use Rattle.lists.proofs.Order.{length-include_all}
-use Rattle.shard_lists.specs.Sets.{Set, made, front, Sized, Sound, Holds}
+use Rattle.shard_lists.specs.declared.set.Set.{Set}
+use Rattle.shard_lists.specs.Sets.{made, front, Sized, Sound, Holds}
 use Rattle.lists.proofs.Sets.{first_put}
 
 pub front_length : (s : Set) → Sized s → length (front s) ≡ s.len
@@ -22,8 +23,8 @@ pub record Sofar (target rest : List ℕ) (most : ℕ) (s : Set) : Type 0 where
   pub few : s.len ≤ most
   pub same : include_all self rest (front s) ≡ target
 
-pub none_yet_lem : (l : List ℕ) (m : ℕ) (items : List ℕ) → length items ≡ 40 → Sofar (set_of l) l m (made items 0)
-none_yet_lem l m items h = record { sound = record { sized = record { room = omega arith; size = h }; rising = tt }; few = omega arith; same = refl }
+pub none_yet_lem : (l : List ℕ) (m : ℕ) (s : Set) → Holds [] s → Sofar (set_of l) l m s
+none_yet_lem l m s h = record { sound = h.sound; few = omega (arith, front_length s h.sound.sized, ap length h.holds); same = ap (include_all self l) h.holds }
 
 pub begun : (l : List ℕ) (m : ℕ) (s : Set) → s.len ≤ m → Sound s → Sofar (include_all self l (front s)) l m s
 begun l m s b h = record { sound = h; few = b; same = refl }
@@ -61,6 +62,12 @@ pub record Written (room : ℕ) (whole rest : List ℕ) (s : Set) : Type 0 where
 
 pub unwritten : (room : ℕ) (whole a : List ℕ) → length a ≡ room → Written room whole whole (made a 0)
 unwritten room whole a h = record { size = h; same = refl }
+
+pub begun_empty : (whole : List ℕ) (s : Set) → Holds [] s → Written 40 whole whole s
+begun_empty whole s h = record { size = h.sound.sized.size; same = ap (λ l. l ++ whole) h.holds }
+
+pub empty_len : (s : Set) → Holds [] s → s.len ≡ 0
+empty_len s h = sym (front_length s h.sound.sized) ∙ ap length h.holds
 
 pub left_out : {room : ℕ} {whole : List ℕ} {s : Set} (old new : List ℕ) → old ≡ new → Written room whole old s → Written room whole new s
 left_out {room} {whole} {s} old new e h = record { size = h.size; same = ap (λ l. front s ++ l) (sym e) ∙ h.same }

@@ -1,6 +1,6 @@
 -- A list of a transaction's reading: empty where it is not owed, else what is written of its entry.
 -- Assumes nothing.
-use Rattle.std.specs.Prelude.{None}
+use Rattle.std.specs.Prelude.{None, Result, Ok, Err}
 use Prim.Native.Nat.{ℕ, ◌≤◌, ◌<◌}
 use mathlib.Core.Path.{◌≡◌, refl, sym}
 use mathlib.Core.Bool.{false}
@@ -22,35 +22,35 @@ use Rattle.store.specs.Roster.{keys_of, is}
 use Rattle.ledger.specs.declared.Ledger.{Ledger}
 use Rattle.ledger.specs.Contents.{contents, Held}
 use Rattle.ledger.proofs.Places.{Owed, not_found}
-use Rattle.readings.specs.declared.Answer.{Answer}
-use Rattle.readings.specs.Reads.{Reads}
-use Rattle.readings.specs.Answers.{Tells, Refuses, Lists}
+use Rattle.types.specs.declared.refusal.Refusal.{Refusal}
+use Rattle.types.specs.declared.refusal.Refusal.TheVariants.{Malformed}
+use Rattle.readings.specs.Reads.{Reads, Lists}
 use Rattle.readings.proofs.Written.{reads_list, turned_away}
-use Rattle.shard_lists.specs.Sets.{Set, front, Holds, unstamped_on, counterparts_at}
+use Rattle.shard_lists.specs.declared.set.Set.{Set}
+use Rattle.shard_lists.specs.Sets.{front, Holds, unstamped_on, counterparts_at}
 
 pub routes-room : {e : Entry} → Fits e → e.routes_len ≤ length e.routes
 routes-room {e} f = omega (arith, f.routes_len, f.routes)
 
 -- one word an item: the items written out are the list
-alone : (items lent after : List ℕ) (r : Answer) (p : Plain) (m : ℕ) → m ≡ 0 → Lists items (length items) lent after r →
+alone : (items lent after : List ℕ) (r : Result ℕ Refusal) (p : Plain) (m : ℕ) → m ≡ 0 → Lists items (length items) lent after r →
     Reads (listing m (length lent) single items p) lent after r
 alone items lent after r p m z h = reads_list single items p m lent after r z (rw (concat_map-single items) h)
 
 -- the first n of some numbers are n items
-first : (items lent after : List ℕ) (n : ℕ) (r : Answer) → n ≤ length items → Lists (take n items) n lent after r → Lists (take n items) (length (take n items)) lent after r
+first : (items lent after : List ℕ) (n : ℕ) (r : Result ℕ Refusal) → n ≤ length items → Lists (take n items) n lent after r → Lists (take n items) (length (take n items)) lent after r
 first items lent after n r h w = rw (length-take-le n items h) w
 
-nothing : (lent : List ℕ) (r : Answer) → Tells 0 r → Lists [] 0 lent lent r
-nothing lent r w =
+nothing : (lent : List ℕ) → Lists [] 0 lent lent (Ok 0)
+nothing lent =
     let t : ltb (length lent) 0 ≡ false = le-ltb (length lent) 0 (omega arith) in
-    record { refused = rw t w.refused; answer = rw t w.answer; wrote = rw t }
+    record { refused = rw t; answer = rw t; wrote = rw t }
 
 module _ (l : Ledger) (h : Held l) (t : ℕ) (lent : List ℕ) (f : plain.Entry → List ℕ) (m : ℕ) (z : m ≡ 0) where
-  pub not-owed : (r : Answer) → place (is t) 0 (keys_of l.roster) ≡ None → Tells 0 r →
-      Reads (listing m (length lent) single (list_of f (entry_of t (contents l))) (contents l)) lent lent r
-  not-owed r e w = rw (not_found l h t e).got (alone [] lent lent r (contents l) m z (nothing lent r w))
+  pub not-owed : place (is t) 0 (keys_of l.roster) ≡ None → Reads (listing m (length lent) single (list_of f (entry_of t (contents l))) (contents l)) lent lent (Ok 0)
+  not-owed e = rw (not_found l h t e).got (alone [] lent lent (Ok 0) (contents l) m z (nothing lent))
 
-  pub of_owed : (s : ℕ) (d : Entry) (items after : List ℕ) (n : ℕ) (r : Answer) → Owed l t s → n ≤ length items →
+  pub of_owed : (s : ℕ) (d : Entry) (items after : List ℕ) (n : ℕ) (r : Result ℕ Refusal) → Owed l t s → n ≤ length items →
       take n items ≡ f (plain_entry (get_or l.entries s d)) → Lists (take n items) n lent after r →
       Reads (listing m (length lent) single (list_of f (entry_of t (contents l))) (contents l)) lent after r
   of_owed s d items after n r e b q w =
@@ -59,7 +59,7 @@ module _ (l : Ledger) (h : Held l) (t : ℕ) (lent : List ℕ) (f : plain.Entry 
 pub set_room : {l : List ℕ} {s : Set} → Holds l s → s.len ≤ length s.items
 set_room h = omega (arith, h.sound.sized.room, h.sound.sized.size)
 
-pub of_departures : (l : Ledger) (s : Set) (lent after : List ℕ) (r : Answer) → Holds (unstamped_on (on_file l.departures)) s → Lists (front s) s.len lent after r →
+pub of_departures : (l : Ledger) (s : Set) (lent after : List ℕ) (r : Result ℕ Refusal) → Holds (unstamped_on (on_file l.departures)) s → Lists (front s) s.len lent after r →
     Reads (read (list_unstamped (length lent)) (contents l)) lent after r
 unfolding unstamped_departures contents
 of_departures l s lent after r h w =
@@ -67,18 +67,17 @@ of_departures l s lent after r h w =
 
 -- counterparts: a depth over 32 is refused before anything is looked up
 module _ (l : Ledger) (h : Held l) (t d : ℕ) (lent : List ℕ) where
-  pub too_deep : (r : Answer) → 32 < d → Refuses 5 r → Reads (read (list_counterparts t d (length lent)) (contents l)) lent lent r
-  too_deep r b w = turned_away single (counterparts t d (contents l)) (contents l) (depth_refusal d) lent 5 r (rw (lt-ltb 32 d b)) (omega arith) w
+  pub too_deep : 32 < d → Reads (read (list_counterparts t d (length lent)) (contents l)) lent lent (Err Malformed)
+  too_deep b = turned_away single (counterparts t d (contents l)) (contents l) (depth_refusal d) lent Malformed (rw (lt-ltb 32 d b))
 
   shallow : d ≤ 32 → depth_refusal d ≡ 0
   shallow b = rw (le-ltb 32 d b)
 
-  pub no_counterparts : (r : Answer) → d ≤ 32 → place (is t) 0 (keys_of l.roster) ≡ None → Tells 0 r →
-      Reads (read (list_counterparts t d (length lent)) (contents l)) lent lent r
+  pub no_counterparts : d ≤ 32 → place (is t) 0 (keys_of l.roster) ≡ None → Reads (read (list_counterparts t d (length lent)) (contents l)) lent lent (Ok 0)
   unfolding counterparts
-  no_counterparts r b e w = not-owed l h t lent (counterparts_of (contents l) d) (depth_refusal d) (shallow b) r e w
+  no_counterparts b e = not-owed l h t lent (counterparts_of (contents l) d) (depth_refusal d) (shallow b) e
 
-  pub of_counterparts : d ≤ 32 → (k : ℕ) (x : Entry) (s : Set) (after : List ℕ) (r : Answer) → Owed l t k →
+  pub of_counterparts : d ≤ 32 → (k : ℕ) (x : Entry) (s : Set) (after : List ℕ) (r : Result ℕ Refusal) → Owed l t k →
       Holds (counterparts_at l.local.0 (on_file l.departures) d (plain_entry (get_or l.entries k x))) s →
       Lists (front s) s.len lent after r → Reads (read (list_counterparts t d (length lent)) (contents l)) lent after r
   unfolding counterparts contents

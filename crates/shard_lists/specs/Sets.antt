@@ -6,14 +6,10 @@ use Rattle.rules.specs.Plain as plain
 use Rattle.rules.specs.Plain.{shard_of, remote}
 use Rattle.rules.specs.Readings.{is_unstamped}
 use Rattle.rules.specs.Good.{GoodDeparture}
+use Rattle.shard_lists.specs.declared.set.Set.{Set}
 use Rattle.store.specs.declared.departures.Departures.{Departures}
 use Rattle.store.specs.Departures as departures
 use Rattle.store.specs.Departures.{on_file}
-
--- the numbers are the first of an array
-pub record Set : Type 0 where
-  pub items : List ℕ
-  pub len : ℕ
 
 abbrev pub made : List ℕ → ℕ → Set
 made items n = record { items = items; len = n }

@@ -1,37 +1,42 @@
-// A set of shards, rising, in the first n of a lent array: what claimants, counterparts and departures are gathered in before they are
-// written out. The array is lent, so that a shard is put in without a copy of it. At most 32 departures and eight shards of a trie come
-// together.
-ghost use Rattle.std.specs.Prelude.{◌+◌, ◌≤◌, ◌<◌};
-ghost use Rattle.lists.specs.Lists.{include, include_all, part, self as itself};
-ghost use Rattle.shard_lists.specs.Sets.{made, front, Sound, Holds};
+// A set of shards, rising, in the front of fixed memory: what claimants, counterparts and departures are gathered in before they are
+// written out. At most 32 departures and eight shards of a trie come together.
+ghost use Rattle.std.specs.Prelude.{◌+◌, ◌≤◌, ◌<◌, [], length};
+ghost use Rattle.lists.specs.Lists.{include, include_all, self as itself};
+ghost use Rattle.shard_lists.specs.Sets.{front, Sound, Holds};
 
 use types::Shard;
 
-// The set with x in it: how many it has then.
-pub fn include(items: &mut [u64; 40], n: usize, x: Shard) -> usize
-    requires { Sound (made items.old n) × (n < 40) }
-    ensures { Holds (include itself x.0 (front (made items.old n))) (made items.new result) }
-{
-    lists::sorted::include(items, n, x.0)
+#[derive(Clone, Copy)]
+pub struct Set {
+    pub items: [u64; 40],
+    pub len: usize,
 }
 
-// The set of len with n shards more in it, from a place of an array on.
-pub fn include_part(
-    items: &mut [u64; 40],
-    len: usize,
-    to: [u64; 32],
-    from: usize,
-    n: usize,
-) -> usize
-    requires { Sound (made items.old len) × (from + n ≤ 32) × (len + n ≤ 40) }
-    ensures { Holds (include_all itself (part from n to) (front (made items.old len))) (made items.new result) }
-{
-    let mut m = len;
-    let mut i: usize = 0;
-    while i < n {
-        let x = Shard(to[from + i]);
-        m = include(items, m, x);
-        i += 1;
+impl Set {
+    pub fn new() -> Set
+        ensures { Holds [] result }
+    {
+        Set {
+            items: [0; 40],
+            len: 0,
+        }
     }
-    m
+
+    // The shard put in, unless it stands already.
+    pub fn include(&mut self, x: Shard)
+        requires { Sound self.old × (self.old.len < 40) }
+        ensures { Holds (include itself x.0 (front self.old)) self.new }
+    {
+        self.len = lists::sorted::include(&mut self.items, self.len, x.0);
+    }
+
+    // Each of some shards put in.
+    pub fn include_all(&mut self, shards: &[u64])
+        requires { Sound self.old × (self.old.len + length shards.now ≤ 40) }
+        ensures { Holds (include_all itself shards.now (front self.old)) self.new }
+    {
+        for x in shards {
+            self.include(Shard(*x));
+        }
+    }
 }

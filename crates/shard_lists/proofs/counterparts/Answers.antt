@@ -1,34 +1,27 @@
 -- The shards gathered are written out; a depth over 32 is refused first (`too_deep`, which the check is told of beside the function), and a
 -- transaction not owed has none.
-use Rattle.std.proofs.Common.{sym, arith, rules, le-leb}
+use Rattle.std.proofs.Common.{arith, le-leb}
+use Rattle.types.specs.Transactions.{number_of}
 use Rattle.ledger.specs.Contents.{contents}
 use Rattle.ledger.proofs.Places.{owed_in}
-use Rattle.shard_lists.proofs.Listed.{no_counterparts, set_room, of_counterparts}
-use Rattle.types.specs.Transactions.{number_of}
+use Rattle.shard_lists.proofs.Listed.{set_room, no_counterparts, of_counterparts}
 use Rattle.shard_lists.proofs.counterparts.Goals as goal
 
 pub returns-in_default : goal.returns-in_default
 returns-in_default c =
-    no_counterparts c.args.ledger c.requires (number_of c.args.tx) c.args.depth c.args.lent.now _ (omega arith) (rw c.in_default.is at c.slot_of.ensures) c.answer.ensures
+    no_counterparts c.args.ledger c.requires (number_of c.args.tx) c.args.depth c.args.lent.now (omega arith) (rw c.in_default.is at c.slot_of.ensures)
 
-pub bounds-ledger-slot : goal.bounds-ledger-slot
-bounds-ledger-slot c =
-    omega (arith, (owed_in c.args.ledger c.requires (number_of c.args.tx) c.in-Some.slot (rw c.in-Some.is at c.slot_of.ensures)).slot)
-
-pub beyond-n-requires : goal.beyond-n-requires
+pub beyond-shards-requires : goal.beyond-shards-requires
 unfolding contents
-beyond-n-requires c =
+beyond-shards-requires c =
     let there = owed_in c.args.ledger c.requires (number_of c.args.tx) c.in-Some.slot (rw c.in-Some.is at c.slot_of.ensures) in
-    (there.fits _, record { sound = c.requires.departures; rising = c.requires.good.departures.rows.order; good = c.requires.good.departures.rows.each }, c.requires.good.frame.local, le-leb c.args.depth 32 (omega arith), search rules)
-
-pub slice_bounds-list-end : goal.slice_bounds-list-end
-slice_bounds-list-end c = sym c.beyond-n.ensures.sound.sized.size
+    (there.fits _, record { sound = c.requires.departures; rising = c.requires.good.departures.rows.order; good = c.requires.good.departures.rows.each }, c.requires.good.frame.local, le-leb c.args.depth 32 (omega arith))
 
 pub list-requires : goal.list-requires
-list-requires c = set_room c.beyond-n.ensures
+list-requires c = set_room c.beyond-shards.ensures
 
 pub returns : goal.returns
 returns c =
     let there = owed_in c.args.ledger c.requires (number_of c.args.tx) c.in-Some.slot (rw c.in-Some.is at c.slot_of.ensures) in
     of_counterparts c.args.ledger c.requires (number_of c.args.tx) c.args.depth c.args.lent.now (omega arith) c.in-Some.slot _ _ _ _
-    there c.beyond-n.ensures c.list.ensures
+    there c.beyond-shards.ensures c.list.ensures
