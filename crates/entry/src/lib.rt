@@ -235,7 +235,7 @@ impl Entry {
 
     // Whether local does not own some route of it.
     pub fn reaches_beyond(self, local: Shard) -> bool
-        requires local_value { is_shard local.0 ≡ true }
+        requires { is_shard local.0 ≡ true }
         ensures { result ≡ filled (remote local.0 (plain_entry self).terms) }
     {
         let n = self.routes_len as usize;
