@@ -11,7 +11,7 @@ use crate::views::View;
 use entry::{Certificate, Entry};
 use types::{Shard, Time};
 
-// Reported holds what the report says of covered, 0 or 1; an entry that only falls is not reported.
+// Reported holds the word that the report writes of covered, 0 or 1; an entry that only falls is not reported.
 #[derive(Clone, Copy)]
 pub enum Verdict {
     Stands,

@@ -8,7 +8,7 @@ ghost use Rattle.words.specs.Lines.{IsLine};
 use lists::slices::{part, size_at, word_at};
 use types::Transaction;
 
-// What a line says of a transaction: its decision code.
+// What a line says of a transaction: its decision code, a number since the match over codes is a form that is kept.
 #[derive(Clone, Copy)]
 pub struct Line {
     pub tx: Transaction,
