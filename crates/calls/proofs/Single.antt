@@ -172,4 +172,4 @@ module _ (l : Ledger) (h : Held l) (t : ℕ) where
 -- there is room for one more absence
 pub room_for : (e : Entry) (a : Absence) → Fits e → Ascending absence_key (absences_of e) → e.absences_len < 8 → RoomForAbsence a e
 unfolding plain_entry
-room_for e a f r b = record { fits = f; rising = r; room = omega (arith, length-absences e f, length-include absence_key a (absences_of e)) }
+room_for e a f r b = record { rising = r; room = omega (arith, length-absences e f, length-include absence_key a (absences_of e)) }

@@ -1,3 +1,4 @@
 pub mod Edges
 pub mod Absent
 pub mod Put
+pub mod Shape

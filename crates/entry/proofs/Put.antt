@@ -21,7 +21,8 @@ use Rattle.rules.specs.Plain.{Edge, Absence, Terms, absence_key, edges_from, iss
 use Rattle.rules.specs.Good.{GoodEntry, GoodPart, Marked}
 use Rattle.entry.specs.declared.Entry.{Entry}
 use Rattle.entry.specs.declared.Absence as entry
-use Rattle.entry.specs.Entry.{plain_entry, plain_part, plain_absence, absence, absences_of, below, Fits, RoomForAbsence, RoomForMark}
+use Rattle.entry.specs.Entry.{plain_entry, plain_part, plain_absence, absence, absences_of, below, RoomForAbsence, RoomForMark}
+use Rattle.entry.proofs.Shape.{fits_of}
 use Rattle.entry.proofs.Absent.{length-absences}
 
 module _ (e : Entry) (shard key : ℕ) (room : RoomForAbsence (absence shard key) e) where
@@ -33,10 +34,10 @@ module _ (e : Entry) (shard key : ℕ) (room : RoomForAbsence (absence shard key
 
   pub absence-room : has absence_key (absence_key it) (absences_of e) ≡ false → e.absences_len < 8
   absence-room new =
-      omega (arith, length-include_new absence_key it (absences_of e) new, room.room, length-absences e room.fits)
+      omega (arith, length-include_new absence_key it (absences_of e) new, room.room, length-absences e (fits_of e))
 
   pub absence-rank : rank (below it) (absences_of e) ≤ e.absences_len
-  absence-rank = omega (arith, rank_le (below it) (absences_of e), length-absences e room.fits)
+  absence-rank = omega (arith, rank_le (below it) (absences_of e), length-absences e (fits_of e))
 
   pub absence-put : (k : ℕ) (x : entry.Absence) (l : List entry.Absence) → plain_absence x ≡ it → has absence_key (absence_key it) (absences_of e) ≡ false →
       k ≡ rank (below it) (absences_of e) → Inserted e.absences n k x l →
@@ -54,10 +55,10 @@ issued-count : (local : ℕ) (t : Terms) → length (issued local t) ≤ length 
 issued-count local t =
     omega (arith, length-map (edges_from local t) (λ (g : Edge). record_key g.id), length-keep (λ (g : Edge). eqb g.from local) t.edges)
 
-pub issued_room : (e : Entry) (local r : ℕ) → Fits e → GoodEntry local (plain_entry e) → is_settling (plain_part e.part) ≡ true →
+pub issued_room : (e : Entry) (local r : ℕ) → GoodEntry local (plain_entry e) → is_settling (plain_part e.part) ≡ true →
     issues local r (plain_entry e).terms ≡ true → RoomForMark r e
 unfolding plain_entry
-issued_room e local r fits good settling known =
+issued_room e local r good settling known =
     let t = (plain_entry e).terms in
     let m = (plain_entry e).marks in
     let q = marked_of (plain_part e.part) local t m e.returned settling good.part in
@@ -65,4 +66,4 @@ issued_room e local r fits good settling known =
     rising-within (include self r m) (issued local t) (ascending-include self r m q.rising)
     (every_include self (λ x. has self x (issued local t) ≡ true) r m known q.among)
     in
-    record { fits = fits; rising = q.rising; room = omega (arith, w, issued-count local t, good.terms.edge_count) }
+    record { rising = q.rising; room = omega (arith, w, issued-count local t, good.terms.edge_count) }

@@ -103,12 +103,10 @@ is_marked e r = has self r (take e.marks_len e.marks)
 
 -- with the absence put in, the absences still fit
 pub record RoomForAbsence (a : plain.Absence) (e : Entry) : Type 0 where
-  pub fits : Fits e
   pub rising : Ascending plain.absence_key (absences_of e)
   pub room : length (include plain.absence_key a (absences_of e)) ≤ 8
 
 -- with the record marked, the marks still fit
 pub record RoomForMark (r : ℕ) (e : Entry) : Type 0 where
-  pub fits : Fits e
   pub rising : Ascending self (take e.marks_len e.marks)
   pub room : length (include self r (take e.marks_len e.marks)) ≤ 8

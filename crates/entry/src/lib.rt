@@ -1,14 +1,10 @@
 // An entry: one transaction that is owed an ending (the Rust's `Owed`), and what each kind of call asks and changes of it.
 #![tactic(auto)]
 
-ghost use Rattle.std.specs.Prelude.{◌≡◌, ◌<◌, MatchResult, ◌&&◌, ◌||◌, not, true, ◌≤◌, eqb, ltb, take};
-ghost use Rattle.lists.specs.Lists.{all, has, include, self as itself, filled, zip_by};
+ghost use Rattle.std.specs.Prelude.{◌≡◌, ◌<◌, MatchResult, ◌&&◌, ◌||◌, true, ◌≤◌, eqb, leb, length, take};
+ghost use Rattle.lists.specs.Lists.{all, has, include, self as itself, filled};
 ghost use Rattle.lists.specs.Arrays.{rank};
 ghost use Rattle.rules.specs.Numbers.{record_key, is_shard};
-ghost use Rattle.rules.specs.Plain.{part_number, is_core, is_leg, is_settling, is_covered, issued, issues, owes, remote, remainder, absence_key};
-ghost use Rattle.rules.specs.Entries.{certified, with_departed_by, with_part, with_marks, marked, read_absent, is_read, is_closed};
-ghost use Rattle.rules.specs.Good.{GoodEntry};
-ghost use Rattle.entry.specs.Entry.{plain_entry, plain_part, plain_absence, certificate_number, absence, absences_of, below, is_marked, Fits, Blank, Means, RoomForAbsence, RoomForMark};
 
 use lists::fronts::insert_at;
 use lists::slices::contains;
@@ -70,6 +66,10 @@ pub struct Entry {
     pub to: [u64; 32],
     pub absences: [Absence; 8],
     pub marks: [u64; 8],
+    pub ghost counts: { (routes_len ≤ 8) × (core_len ≤ 8) × (edges_len ≤ 8) × (absences_len ≤ 8) × (marks_len ≤ 8) },
+    pub ghost few: { all (λ n. leb n 4) (take edges_len sizes) ≡ true },
+    pub ghost words: { (length routes ≡ 8) × (length core ≡ 8) × (length ids ≡ 8) × (length froms ≡ 8) × (length to ≡ 32) × (length marks ≡ 8) },
+    pub ghost others: { (length kinds ≡ 8) × (length sizes ≡ 8) × (length absences ≡ 8) },
 }
 
 // Whether an edge from this shard has this id's record key.
@@ -80,6 +80,9 @@ pub fn is_issue(from: Shard, id: u64, local: Shard, r: RecordKey) -> bool
 }
 
 impl Absence {
+    ghost use Rattle.rules.specs.Plain.{absence_key};
+    ghost use Rattle.entry.specs.Entry.{plain_absence, below};
+
     // As the joined keys go, of keys that are words.
     fn is(self, x: Absence) -> bool
         ensures { result ≡ eqb (absence_key (plain_absence self)) (absence_key (plain_absence x)) }
@@ -95,6 +98,9 @@ impl Absence {
 }
 
 impl Part {
+    ghost use Rattle.rules.specs.Plain.{part_number, is_core, is_leg, is_settling};
+    ghost use Rattle.entry.specs.Entry.{plain_part};
+
     pub fn number(self) -> u64
         ensures { result ≡ part_number (plain_part self) }
     {
@@ -123,6 +129,8 @@ impl Part {
 
 // By the code that comes in words.
 impl TryFrom<u64> for Certificate {
+    ghost use Rattle.entry.specs.Entry.{certificate_number};
+
     type Error = UnknownCertificate;
 
     fn try_from(code: u64) -> Result<Certificate, UnknownCertificate>
@@ -137,8 +145,13 @@ impl TryFrom<u64> for Certificate {
     }
 }
 
-#[tactic(auto, unfolding(crate::specs::Entry::plain_entry))]
+#[tactic(auto, using(crate::proofs::Shape::fits_of), unfolding(crate::specs::Entry::plain_entry))]
 impl Entry {
+    ghost use Rattle.rules.specs.Plain.{is_covered, issued, issues, owes, remote, remainder};
+    ghost use Rattle.rules.specs.Entries.{certified, with_departed_by, with_part, with_marks, marked, read_absent, is_read, is_closed};
+    ghost use Rattle.rules.specs.Good.{GoodEntry};
+    ghost use Rattle.entry.specs.Entry.{plain_entry, plain_absence, certificate_number, absence, absences_of, below, is_marked, Blank, Means, RoomForAbsence, RoomForMark};
+
     // What a place of the arena holds before an entry is put there.
     pub fn blank() -> Entry
         ensures { Blank result }
@@ -175,29 +188,24 @@ impl Entry {
 
     // The entry with a certificate of at least this one.
     pub fn with_certificate(self, certificate: Certificate) -> Entry
-        requires { Fits self }
         ensures { Means (certified (certificate_number certificate) (plain_entry self)) result }
     {
-        Entry {
-            certified: self.certified.max(certificate),
-            ..self
-        }
+        let mut e = self;
+        e.certified = e.certified.max(certificate);
+        e
     }
 
     // The entry named by a shard's record, over any older name.
     pub fn with_departed_by(self, shard: Shard) -> Entry
-        requires { Fits self }
         ensures { Means (with_departed_by shard.0 (plain_entry self)) result }
     {
-        Entry {
-            departed_by: shard,
-            ..self
-        }
+        let mut e = self;
+        e.departed_by = shard;
+        e
     }
 
     // Whether a record names it or a cell was read absent for it.
     pub fn covered(self) -> bool
-        requires { Fits self }
         ensures { result ≡ is_covered (plain_entry self) }
     {
         self.departed_by.0 > 0 || self.absences_len > 0
@@ -205,7 +213,6 @@ impl Entry {
 
     // Whether an edge from local has this record key.
     pub fn issues(self, local: Shard, r: RecordKey) -> bool
-        requires { Fits self }
         ensures { result ≡ issues local.0 r.0 (plain_entry self).terms }
     {
         let n = self.edges_len as usize;
@@ -217,7 +224,6 @@ impl Entry {
 
     // Whether an edge from local is owed.
     pub fn owes(self, local: Shard) -> bool
-        requires { Fits self }
         ensures { result ≡ owes local.0 (plain_entry self).terms }
     {
         let n = self.edges_len as usize;
@@ -229,8 +235,7 @@ impl Entry {
 
     // Whether local does not own some route of it.
     pub fn reaches_beyond(self, local: Shard) -> bool
-        requires fits { Fits self }
-        requires local_value { is_shard local.0 ≡ true }
+        requires { is_shard local.0 ≡ true }
         ensures { result ≡ filled (remote local.0 (plain_entry self).terms) }
     {
         let n = self.routes_len as usize;
@@ -239,7 +244,6 @@ impl Entry {
 
     // Whether this cell was read absent for it.
     pub fn is_read(self, shard: Shard, key: u64) -> bool
-        requires { Fits self }
         ensures { result ≡ is_read (absence shard.0 key) (plain_entry self) }
     {
         let n = self.absences_len as usize;
@@ -250,7 +254,6 @@ impl Entry {
 
     // How many of its absences, from the front, are lower than this one.
     fn rank(self, x: Absence) -> usize
-        requires { Fits self }
         ensures { result ≡ rank (below (plain_absence x)) (absences_of self) }
     {
         let n = self.absences_len as usize;
@@ -273,16 +276,14 @@ impl Entry {
         let k = self.rank(x);
         let mut absences = self.absences;
         insert_at(&mut absences, n, k, x);
-        Entry {
-            absences,
-            absences_len: self.absences_len + 1,
-            ..self
-        }
+        let mut e = self;
+        e.absences = absences;
+        e.absences_len += 1;
+        e
     }
 
     // Whether this record was settled or returned.
     pub fn has_mark(self, r: RecordKey) -> bool
-        requires { Fits self }
         ensures { result ≡ has itself r.0 (plain_entry self).marks }
     {
         let n = self.marks_len as usize;
@@ -297,18 +298,17 @@ impl Entry {
         let n = self.marks_len as usize;
         let mut marks = self.marks;
         let m = include(&mut marks, n, r.0);
-        Entry {
-            returned: self.returned || is_return,
-            marks,
-            marks_len: m as u8,
-            ..self
-        }
+        let mut e = self;
+        e.returned = self.returned || is_return;
+        e.marks = marks;
+        e.marks_len = m as u8;
+        e
     }
 
     // The entry with this record settled, or returned: only where it issued the record and waits for its settlement.
-    #[tactic(auto, using(crate::proofs::Put::issued_room), unfolding(crate::specs::Entry::plain_entry))]
+    #[tactic(auto, using(crate::proofs::Shape::fits_of, crate::proofs::Put::issued_room), unfolding(crate::specs::Entry::plain_entry))]
     pub fn with_mark(self, local: Shard, r: RecordKey, is_return: bool) -> Entry
-        requires { Fits self × GoodEntry local.0 (plain_entry self) }
+        requires { GoodEntry local.0 (plain_entry self) }
         ensures { Means (marked local.0 r.0 is_return (plain_entry self)) result }
     {
         if self.part.is_settling() && self.issues(local, r) {
@@ -320,21 +320,18 @@ impl Entry {
 
     // The entry as a remainder, with nothing marked yet.
     pub fn resolve(self) -> Entry
-        requires { Fits self }
         ensures { Means (with_part remainder (plain_entry self)) result }
     {
-        Entry {
-            part: Part::Remainder,
-            returned: false,
-            marks_len: 0, // what was marked before does not count
-            ..self
-        }
+        let mut e = self;
+        e.part = Part::Remainder;
+        e.returned = false;
+        e.marks_len = 0; // what was marked before does not count
+        e
     }
 
     // Whether an edge starts from local.
-    #[tactic(auto, using(crate::proofs::Edges::issued_is), unfolding(crate::specs::Entry::plain_entry))]
+    #[tactic(auto, using(crate::proofs::Shape::fits_of, crate::proofs::Edges::issued_is), unfolding(crate::specs::Entry::plain_entry))]
     fn has_issued(self, local: Shard) -> bool
-        requires { Fits self }
         ensures { result ≡ filled (issued local.0 (plain_entry self).terms) }
     {
         let n = self.edges_len as usize;
@@ -343,7 +340,6 @@ impl Entry {
 
     // Whether each record that it issued is marked.
     fn all_marked(self, local: Shard) -> bool
-        requires { Fits self }
         ensures { result ≡ all (is_marked self) (issued local.0 (plain_entry self).terms) }
     {
         let n = self.edges_len as usize;
@@ -354,7 +350,6 @@ impl Entry {
 
     // Whether all that it issued, which is something, is settled or returned.
     pub fn is_closed(self, local: Shard) -> bool
-        requires { Fits self }
         ensures { result ≡ is_closed local.0 (plain_entry self) }
     {
         self.part.is_settling() && self.has_issued(local) && self.all_marked(local)

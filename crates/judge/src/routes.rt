@@ -3,7 +3,7 @@ ghost use Rattle.std.specs.Prelude.{◌≡◌, ◌&&◌, ◌||◌, true, not, eq
 ghost use Rattle.rules.specs.Plain as plain;
 ghost use Rattle.rules.specs.Numbers.{is_shard, owns};
 ghost use Rattle.rules.specs.Prune.{holds};
-ghost use Rattle.entry.specs.Entry.{plain_entry, Fits};
+ghost use Rattle.entry.specs.Entry.{plain_entry};
 ghost use Rattle.judge.specs.View.{zeros_of};
 ghost use Rattle.judge.specs.Answers.{SaysAnswerable, SaysCovered};
 
@@ -38,8 +38,7 @@ fn counts_over(led: u64, d: Seen, anchor: Time, best: Time, lowest: Shard) -> bo
 // Rule 4's question: over some remote route there is no departure, or the one that counts is readable. The departures are gone
 // through downwards, with the best so far beside; the loops left by their label are a form that is kept.
 pub fn is_answerable(e: &Entry, local: Shard, view: &View) -> bool
-    requires fits { Fits e.now }
-    requires local_value { is_shard local.0 ≡ true }
+    requires { is_shard local.0 ≡ true }
     ensures { SaysAnswerable view.now (take e.now.routes_len e.now.routes) e.now.anchor.0 local.0 result }
 {
     let n = e.routes_len as usize;
@@ -83,8 +82,7 @@ fn is_over_remote(route: u64, local: Shard, d: Seen, anchor: Time) -> bool
 
 // Whether a departure is over some remote route.
 fn covers_some(e: &Entry, local: Shard, d: Seen) -> bool
-    requires fits { Fits e.now }
-    requires local_value { is_shard local.0 ≡ true }
+    requires { is_shard local.0 ≡ true }
     ensures { SaysCovered d (take e.now.routes_len e.now.routes) e.now.anchor.0 local.0 result }
 {
     let n = e.routes_len as usize;
@@ -96,8 +94,7 @@ fn covers_some(e: &Entry, local: Shard, d: Seen) -> bool
 
 // Whether an entry needs a departure: its shard names the entry, or it is over a remote route of it.
 pub fn needs(e: &Entry, local: Shard, x: Seen) -> bool
-    requires fits { Fits e.now }
-    requires local_value { is_shard local.0 ≡ true }
+    requires { is_shard local.0 ≡ true }
     ensures { (d : plain.Departure) → is_shard d.shard ≡ true → x.shard.0 ≡ d.shard → x.zeros ≡ zeros_of d → x.cut.0 ≡ d.cut → result ≡ holds local.0 d (plain_entry e.now) }
 {
     e.departed_by == x.shard || covers_some(e, local, x)

@@ -3,7 +3,7 @@ ghost use Rattle.std.specs.Prelude.{◌≡◌, ◌&&◌, ◌||◌, true, ltb};
 ghost use Rattle.lists.specs.Lists.{filled};
 ghost use Rattle.rules.specs.Plain.{is_core, is_settling};
 ghost use Rattle.rules.specs.Numbers.{is_shard, is_time, is_span};
-ghost use Rattle.entry.specs.Entry.{plain_entry, Fits};
+ghost use Rattle.entry.specs.Entry.{plain_entry};
 ghost use Rattle.judge.specs.Verdict.{reported_unless, quiet_unless, RuledByRoutes, Judged};
 
 use crate::routes;
@@ -52,7 +52,6 @@ fn is_awaiting(e: &Entry) -> bool
 // Rule 2: leg, remainder or any absence.
 #[tactic(auto, unfolding(entry::specs::Entry::plain_entry))]
 fn is_settling(e: &Entry) -> bool
-    requires { Fits e.now }
     ensures { result ≡ (is_settling (plain_entry e.now).part || filled (plain_entry e.now).absences) }
 {
     e.part.is_settling() || 0 < e.absences_len
@@ -60,7 +59,6 @@ fn is_settling(e: &Entry) -> bool
 
 // Rules 4 and 5, of an entry that no record names and that has no absence.
 fn by_routes(e: &Entry, local: Shard, validity: u64, time: Time, view: &View) -> Verdict
-    requires fits { Fits e.now }
     requires local_value { is_shard local.0 ≡ true }
     requires at_value { is_time e.now.at.0 ≡ true }
     requires validity_value { is_span validity ≡ true }
@@ -81,7 +79,6 @@ pub fn judge(
     time: Time,
     view: &View,
 ) -> Verdict
-    requires fits { Fits e.now }
     requires local_value { is_shard local.0 ≡ true }
     requires at_value { is_time e.now.at.0 ≡ true }
     requires validity_value { is_span validity ≡ true }

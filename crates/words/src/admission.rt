@@ -3,7 +3,7 @@
 ghost use Rattle.std.specs.Prelude.{◌≡◌, true, false, MatchOption, eqb};
 ghost use Rattle.rules.specs.Words.{decomposed, admission_terms, admission_formed, admission_timed, admission_placed};
 ghost use Rattle.rules.specs.Entries.{whole_terms, admitted};
-ghost use Rattle.entry.specs.Entry.{plain_part, plain_entry, Fits, Means};
+ghost use Rattle.entry.specs.Entry.{plain_part, plain_entry, Means};
 ghost use Rattle.types.specs.Transactions.{number_of};
 ghost use Rattle.words.specs.Taken.{part_in, with_terms};
 
@@ -76,21 +76,26 @@ impl<'a> Admission<'a> {
 
     // The entry with the core shards and the edges.
     fn with_edges(self, e: Entry) -> Entry
-        requires { Fits e × ((plain_entry e).terms ≡ whole_terms (admission_terms self.parts.words.now)) }
+        requires { (plain_entry e).terms ≡ whole_terms (admission_terms self.parts.words.now) }
         ensures { Means (with_terms (admission_terms self.entry.parts.words.now) (plain_entry e)) result }
     {
         let p = self.parts;
-        Entry {
-            core_len: p.core.len() as u8,
-            edges_len: p.ids.len() as u8,
-            core: front(p.core),
-            ids: front(p.ids),
-            froms: front(p.froms),
-            kinds: bytes(p.kinds),
-            sizes: bytes(p.sizes),
-            to: front(p.destinations),
-            ..e
-        }
+        let core = front(p.core);
+        let ids = front(p.ids);
+        let froms = front(p.froms);
+        let kinds = bytes(p.kinds);
+        let sizes = bytes(p.sizes);
+        let to = front(p.destinations);
+        let mut r = e;
+        r.core = core;
+        r.ids = ids;
+        r.froms = froms;
+        r.kinds = kinds;
+        r.sizes = sizes;
+        r.to = to;
+        r.core_len = p.core.len() as u8;
+        r.edges_len = p.ids.len() as u8;
+        r
     }
 
     // The entry that it takes in.

@@ -19,17 +19,17 @@ pub fn bare(
     requires { (at ≤ length words.now) × (length routes.now ≤ 8) }
     ensures { Means (bare_entry (plain_part part) at words.now routes.now (certificate_number certified) departed_by.0) result }
 {
-    Entry {
-        tx: Transaction::read(words, at),
-        at: Time(word_at(words, at + 1)),
-        end: Time(word_at(words, at + 2)),
-        anchor: Time(word_at(words, at + 3)),
-        charge: word_at(words, at + 4),
-        departed_by,
-        part,
-        certified,
-        routes_len: routes.len() as u8,
-        routes: front(routes),
-        ..Entry::blank()
-    }
+    let held = front(routes);
+    let mut e = Entry::blank();
+    e.tx = Transaction::read(words, at);
+    e.at = Time(word_at(words, at + 1));
+    e.end = Time(word_at(words, at + 2));
+    e.anchor = Time(word_at(words, at + 3));
+    e.charge = word_at(words, at + 4);
+    e.departed_by = departed_by;
+    e.part = part;
+    e.certified = certified;
+    e.routes = held;
+    e.routes_len = routes.len() as u8;
+    e
 }

@@ -16,7 +16,7 @@ pub bounds-ledger-k : goal.bounds-ledger-k
 bounds-ledger-k c = omega (arith, (found_at c.args.ledger c.requires (number_of c.args.tx) c.in-Some.k (sym c.find.ensures ∙ c.in-Some.is)).place, c.requires.roster.room)
 
 pub bounds-ledger-slot : goal.bounds-ledger-slot
-bounds-ledger-slot c = (found_at c.args.ledger c.requires (number_of c.args.tx) c.in-Some.k (sym c.find.ensures ∙ c.in-Some.is)).slot
+bounds-ledger-slot c _ = (found_at c.args.ledger c.requires (number_of c.args.tx) c.in-Some.k (sym c.find.ensures ∙ c.in-Some.is)).slot
 
 pub returns-then-not-is_leg : goal.returns-then-not-is_leg
 unfolding plain_entry

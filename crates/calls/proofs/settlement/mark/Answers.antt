@@ -8,8 +8,7 @@ use Rattle.calls.proofs.settlement.mark.Goals as goal
 pub with_mark-requires : goal.with_mark-requires
 unfolding contents
 with_mark-requires c =
-    let there = owed_in c.args.ledger c.requires (number_of c.args.tx) c.in-Some.slot (rw c.in-Some.is at c.slot_of.ensures) in
-    (there.fits _, there.good _)
+    (owed_in c.args.ledger c.requires (number_of c.args.tx) c.in-Some.slot (rw c.in-Some.is at c.slot_of.ensures)).good _
 
 pub returns-in_default : goal.returns-in_default
 returns-in_default c = mark_unknown c.args.ledger c.requires (number_of c.args.tx) c.args.r.0 c.args.is_return (rw c.in_default.is at c.slot_of.ensures)

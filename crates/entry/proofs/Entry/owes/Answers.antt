@@ -3,6 +3,7 @@ use Rattle.std.proofs.lemmas.Iterator.{YieldsList-from_slice, YieldsList-from_zi
 use Rattle.std.proofs.lemmas.Iterator.Search.{any_from_yields_List}
 use Rattle.entry.specs.Entry.{plain_entry}
 use Rattle.entry.proofs.Edges.{owes_any, any-kinds}
+use Rattle.entry.proofs.Shape.{fits_of}
 use Rattle.entry.proofs.Entry.owes.Goals as goal
 
 pub returns : goal.returns
@@ -12,5 +13,5 @@ returns c =
     let n = a.self.edges_len in
     any_from_yields_List (λ (x : ℕ × ℕ). eqb x.0 a.local.0 && eqb x.1 1) c.any.new.self _ _ c.any.ensures.ran
     (YieldsList-from_zip (YieldsList-from_slice (take n a.self.froms) cc) (YieldsList-from_slice (take n a.self.kinds) cc)) (λ x b q k. search (rules, tests))
-    ∙ sym (any-kinds a.self c.requires (λ x. eqb x.0 a.local.0 && eqb x.1 1))
+    ∙ sym (any-kinds a.self (fits_of a.self) (λ x. eqb x.0 a.local.0 && eqb x.1 1))
     ∙ sym (owes_any a.local.0 (plain_entry a.self).terms)

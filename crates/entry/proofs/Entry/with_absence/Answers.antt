@@ -3,6 +3,7 @@ use Rattle.entry.specs.Entry.{plain_entry}
 use Rattle.lists.proofs.Order.{include-known}
 use Rattle.rules.specs.Plain.{absence_key}
 use Rattle.entry.specs.Entry.{absence, absences_of}
+use Rattle.entry.proofs.Shape.{fits_of}
 use Rattle.entry.proofs.Put.{absence-room, absence-rank, absence-put}
 use Rattle.entry.proofs.Entry.with_absence.Goals as goal
 
@@ -11,7 +12,7 @@ unfolding plain_entry
 returns-then-is_read c =
     let a = c.args in
     record {
-      fits = c.requires.fits;
+      fits = fits_of a.self;
       plain = rw (include-known absence_key (absence a.shard.0 a.key) (absences_of a.self) c.requires.rising (sym c.is_read.ensures ∙ c.if-is_read.true));
     }
 
@@ -20,13 +21,13 @@ unfolding plain_entry
 insert_at-requires c =
     let a = c.args in
     let few = absence-room a.self a.shard.0 a.key c.requires (sym c.is_read.ensures ∙ c.if-is_read.false) in
-    (omega (arith, c.rank-k.ensures, absence-rank a.self a.shard.0 a.key c.requires), omega (arith, few, c.requires.fits.absences))
+    (omega (arith, c.rank-k.ensures, absence-rank a.self a.shard.0 a.key c.requires), omega (arith, few, (fits_of a.self).absences))
 
 pub returns : goal.returns
 unfolding plain_entry
 returns c =
     let a = c.args in
-    let f = c.requires.fits in
+    let f = fits_of a.self in
     let new = sym c.is_read.ensures ∙ c.if-is_read.false in
     let few = absence-room a.self a.shard.0 a.key c.requires new in
     record {

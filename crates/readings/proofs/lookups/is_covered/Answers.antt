@@ -1,15 +1,11 @@
 use Rattle.rules.specs.Plain.{is_covered}
 use Rattle.types.specs.Transactions.{number_of}
 use Rattle.entry.specs.Entry.{plain_entry}
-use Rattle.ledger.proofs.Places.{owed_in}
 use Rattle.readings.proofs.Looked.{answered, unanswered}
 use Rattle.readings.proofs.lookups.is_covered.Goals as goal
 
 pub returns-in_default : goal.returns-in_default
 returns-in_default c = unanswered is_covered c.args.ledger c.requires (number_of c.args.tx) (rw c.in_default.is at c.slot_of.ensures)
-
-pub covered-requires : goal.covered-requires
-covered-requires c = (owed_in c.args.ledger c.requires (number_of c.args.tx) c.in-Some.slot (rw c.in-Some.is at c.slot_of.ensures)).fits _
 
 pub returns : goal.returns
 unfolding plain_entry

@@ -4,7 +4,6 @@ use Rattle.lists.specs.Lists.{filled}
 use Rattle.rules.specs.Plain.{Entry, remote}
 use Rattle.types.specs.Transactions.{number_of}
 use Rattle.ledger.specs.Contents.{contents}
-use Rattle.ledger.proofs.Places.{owed_in}
 use Rattle.readings.proofs.Looked.{answered, unanswered}
 use Rattle.readings.proofs.lookups.reaches_beyond.Goals as goal
 
@@ -15,12 +14,9 @@ pub returns-in_default : goal.returns-in_default
 unfolding contents
 returns-in_default c = unanswered (is_beyond c.args.ledger.local.0) c.args.ledger c.requires (number_of c.args.tx) (rw c.in_default.is at c.slot_of.ensures)
 
-pub reaches_beyond-requires-clause-fits : goal.reaches_beyond-requires-clause-fits
-reaches_beyond-requires-clause-fits c = (owed_in c.args.ledger c.requires (number_of c.args.tx) c.in-Some.slot (rw c.in-Some.is at c.slot_of.ensures)).fits _
-
-pub reaches_beyond-requires-clause-local_value : goal.reaches_beyond-requires-clause-local_value
+pub reaches_beyond-requires : goal.reaches_beyond-requires
 unfolding contents
-reaches_beyond-requires-clause-local_value c = c.requires.good.frame.local
+reaches_beyond-requires c = c.requires.good.frame.local
 
 pub returns : goal.returns
 unfolding contents

@@ -8,7 +8,7 @@ use Rattle.words.proofs.admission.Admission.entry.Goals as goal
 pub with_edges-requires : goal.with_edges-requires
 with_edges-requires c =
     let p = c.args.self.parts in
-    (c.bare-e.ensures.fits, bare-terms c.args.local.0 p.words.now p.routes.now (plain_part c.part-part.result) c.bare-e.result c.bare-e.ensures p.split.routes)
+    bare-terms c.args.local.0 p.words.now p.routes.now (plain_part c.part-part.result) c.bare-e.result c.bare-e.ensures p.split.routes
 
 pub returns-then-is_whole : goal.returns-then-is_whole
 returns-then-is_whole c =
