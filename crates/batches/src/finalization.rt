@@ -4,7 +4,7 @@ ghost use Rattle.lists.specs.Lists.{has, self};
 ghost use Rattle.rules.specs.Plain.{is_core, is_settling, owes};
 ghost use Rattle.rules.specs.Calls.{after_finalization};
 ghost use Rattle.rules.specs.Words.{deciding};
-ghost use Rattle.entry.specs.Entry.{plain_entry, plain_part, Fits};
+ghost use Rattle.entry.specs.Entry.{plain_entry, plain_part};
 ghost use Rattle.ledger.specs.Contents.{Held, contents};
 ghost use Rattle.ledger.specs.Meets.{Meets};
 ghost use Rattle.batches.specs.Rulings.{ruled_by, ruled_on};
@@ -56,7 +56,6 @@ fn is_open(finalization: Finalization<'_>, tx: Transaction, part: Part) -> bool
 
 // Whether it is a core with an owed edge from local.
 fn is_owing(e: Entry, local: Shard) -> bool
-    requires { Fits e }
     ensures { result ≡ is_core (plain_entry e).part && owes local.0 (plain_entry e).terms }
 {
     e.part.is_core() && e.owes(local)
@@ -64,7 +63,6 @@ fn is_owing(e: Entry, local: Shard) -> bool
 
 // What a line does with its transaction's entry.
 fn rule(finalization: Finalization<'_>, line: Line, e: Entry, local: Shard) -> Ruling
-    requires { Fits e }
     ensures { result ≡ ruled_on local.0 (deciding finalization.entry.words.now) (plain_line line) (plain_entry e) }
 {
     let open = is_open(finalization, line.tx, e.part);

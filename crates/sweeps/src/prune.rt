@@ -8,7 +8,7 @@ ghost use Rattle.rules.specs.Words.{transaction_words};
 ghost use Rattle.rules.specs.Widths.{report_size, report_room};
 ghost use Rattle.types.specs.Refusals.{refused_in};
 ghost use Rattle.types.specs.Transactions.{number_of};
-ghost use Rattle.entry.specs.Entry.{plain_entry, Fits};
+ghost use Rattle.entry.specs.Entry.{plain_entry};
 ghost use Rattle.ledger.specs.Contents.{Held, contents};
 ghost use Rattle.ledger.specs.Meets.{Meets};
 ghost use Rattle.sweeps.specs.Pruning.{begun, refusal_by, Needed, Judges};
@@ -37,8 +37,7 @@ pub struct Pruning {
 
 // The flags of the departures, up also for those that the entry needs.
 fn with_needs(mut flags: [bool; 32], e: &Entry, local: Shard, view: &View) -> [bool; 32]
-    requires fits { Fits e.now }
-    requires local_value { is_shard local.0 ≡ true }
+    requires { is_shard local.0 ≡ true }
     ensures { Needed local.0 (plain_entry e.now) view.now flags result }
 {
     for j in 0..view.len {

@@ -25,12 +25,6 @@ offset_bounds-ledger-k c = omega (arith, (there c).place)
 pub bounds-ledger-k : goal.bounds-ledger-k
 bounds-ledger-k c = omega (arith, (there c).place, c.loop-i.invariant.held.roster)
 
-pub rule-requires : goal.rule-requires
-rule-requires c = (found_at c.loop-i.ledger c.loop-i.invariant.held _ c.in-Some-find.k (sym c.find.ensures ∙ c.in-Some-find.is)).fits _
-
-pub resolve-requires : goal.resolve-requires
-resolve-requires c = (found_at c.loop-i.ledger c.loop-i.invariant.held _ c.in-Some-find.k (sym c.find.ensures ∙ c.in-Some-find.is)).fits _
-
 pub remove_at-ledger-requires : goal.remove_at-ledger-requires
 remove_at-ledger-requires c = (c.loop-i.invariant.held.roster, (found_at c.loop-i.ledger c.loop-i.invariant.held _ c.in-Some-find.k (sym c.find.ensures ∙ c.in-Some-find.is)).place)
 

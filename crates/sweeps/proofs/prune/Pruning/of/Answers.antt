@@ -22,8 +22,8 @@ judge-requires-clause-validity_value c = validity-good c.args.ledger.now c.requi
 pub judge-requires-clause-leg_span_value : goal.judge-requires-clause-leg_span_value
 judge-requires-clause-leg_span_value c = leg-good c.args.ledger.now c.requires c.args.time.0
 
-pub with_needs-p-requires-clause-local_value : goal.with_needs-p-requires-clause-local_value
-with_needs-p-requires-clause-local_value c = local-good c.args.ledger.now c.requires c.args.time.0
+pub with_needs-p-requires : goal.with_needs-p-requires
+with_needs-p-requires c = local-good c.args.ledger.now c.requires c.args.time.0
 
 pub loop-i-preserved : goal.loop-i-preserved
 loop-i-preserved c =
