@@ -7,8 +7,8 @@ use mathlib.Core.List.{List, [], ◌∷◌, ◌++◌, Memᴰ}
 use native.Mathlib.Omega.{arith}
 use borrow.Author.Tests.{eq-eqb, ne_eqb, eqb-true, leb-true}
 use lib.Dec.{eqb, leb}
-use lib.ListN.{length, take, length-map, length-append}
-use lib.Seq.{length-take-le}
+use lib.ListN.{length, take, drop, get_or, length-map, length-append}
+use lib.Seq.{length-take-le, get_or-take}
 use Rattle.lists.specs.Lists.{cons_if, keep, concat_map, has, without, Above, Ascending, self}
 use Rattle.lists.proofs.Tests.{and_both, and_left, and_right, same_test}
 use Rattle.lists.proofs.Keep.{keep_same, any-has, any_more, length-keep}
@@ -25,7 +25,8 @@ use Rattle.entry.specs.declared.Entry.{Entry}
 use Rattle.entry.specs.Entry.{plain_entry, Fits}
 use Rattle.entry.proofs.Edges.{starting}
 use Rattle.ledger.specs.declared.Ledger.{Ledger}
-use Rattle.ledger.specs.Contents.{contents, Held}
+use Rattle.ledger.specs.Contents.{contents, entries_of, Held}
+use Rattle.ledger.proofs.Places.{entry_at}
 use Rattle.entry_lists.specs.Tests.{holds_id, is_asking, asks_of}
 
 -- An entry whose edges from local hold an id is in the index under the id's key.
@@ -53,6 +54,22 @@ issuer_holds p g id e m =
 pub issuers_hold : (p : Plain) → Good p → (id : ℕ) → issuers_of id p ≡ keep (holds_id p.local id) p.entries
 unfolding issuers_of
 issuers_hold p g id = keep_same (is_issuer p id) (holds_id p.local id) p.entries (λ e m. issuer_holds p g id e m)
+
+-- The entry that a loop over the slots in use meets.
+abbrev pub slot_met : Ledger → ℕ → ℕ
+slot_met l i = get_or (take l.roster.len l.roster.slots) i 0
+
+pub record AtTurn (l : Ledger) (i s : ℕ) : Type 0 where
+  pub place : i < 48
+  pub fits : (d : Entry) → Fits (get_or l.entries s d)
+  pub good : (d : Entry) → GoodEntry l.local.0 (plain_entry (get_or l.entries s d))
+  pub next : (d : Entry) → drop i (entries_of l) ≡ plain_entry (get_or l.entries s d) ∷ drop (i + 1) (entries_of l)
+
+pub at_turn : (l : Ledger) → Held l → (i : ℕ) → i < l.roster.len → AtTurn l i (slot_met l i)
+unfolding contents
+at_turn l h i b =
+    let a = entry_at l h i b in
+    rw (get_or-take l.roster.len l.roster.slots i 0 b) (record { place = a.place; fits = a.fits; good = a.good; next = a.next })
 
 -- V is within what a sum of two times fits.
 pub validity-small : (l : Ledger) → Held l → l.validity < 2 ^ 48
@@ -119,11 +136,11 @@ pub asks_none : (local : ℕ) (x : plain.Entry) → is_asking x ≡ false → le
 asks_none local x h = rw h
 
 pub asks_all : (local : ℕ) (e : Entry) → Fits e → GoodEntry local (plain_entry e) → is_asking (plain_entry e) ≡ true →
-    (1 ≤ e.core_len) × (e.core_len - 1 ≡ length (questions_of local (plain_entry e))) × (e.core_len - 1 ≤ 8)
+    (1 ≤ e.core_len) × ((e.core_len - 1 ≡ length (questions_of local (plain_entry e))) × (e.core_len - 1 ≤ 8))
 asks_all local e f g h =
     let n = asks_count local e f g h in
     let all : length (questions_of local (plain_entry e)) ≡ length (asks_of local (plain_entry e)) = rw h in
-    (omega (arith, n), omega (arith, n, all), omega (arith, f.core_len))
+    (omega (arith, n), (omega (arith, n, all), omega (arith, f.core_len)))
 
 pub asks_next : (local : ℕ) (x : plain.Entry) (l m : List plain.Entry) → l ≡ x ∷ m →
     length (concat_map (questions_of local) l) ≡ length (questions_of local x) + length (concat_map (questions_of local) m)

@@ -1,23 +1,28 @@
 -- A loop that writes items one behind the other: what is written, with the items still to come, is the whole run.
 -- Assumes nothing.
-use Prim.Native.Nat.{ℕ, ◌+◌, ◌*◌, ◌≤◌, ◌<◌}
+use Prim.Native.Nat.{ℕ, suc, ◌+◌, ◌*◌, ◌≤◌, ◌<◌}
 use mathlib.Core.Path.{◌≡◌, refl, sym, ap, ◌∙◌}
 use mathlib.Core.Bool.{true, false}
 use mathlib.Core.List.{List, [], ◌∷◌, ◌++◌, append-nil}
-use native.Mathlib.Numerals.{add-one, add-two, add-three, add-four}
+use native.Mathlib.Numerals.{add-one}
 use native.Mathlib.Omega.{arith}
 use borrow.Author.Tests.{lt-ltb, le-ltb}
-use lib.ListN.{length, take, drop, set, length-append}
-use lib.Seq.{sets, length-sets, take_all, take-append-le}
+use lib.ListN.{length, take, drop, length-append, length-set}
+use borrow.Rule.Slice.PartMut.{put_mid}
+use Rattle.std.proofs.lemmas.Slice.{put_mid-paste}
+use Rattle.std.proofs.lemmas.List.{append_assoc}
+use Rattle.std.proofs.lemmas.List.Edits.{paste_all}
+use lib.Seq.{sets, sets-eq, length-sets, take_all, take-append-le}
 use Rattle.lists.specs.Lists.{concat_map}
 use Rattle.lists.proofs.Keep.{concat_map-append}
 use Rattle.lists.proofs.Listing.{length-words, sets_append, sets_front}
 use Rattle.rules.specs.Plain.{Plain}
 use Rattle.rules.specs.Outcome.{too_short}
 use Rattle.rules.specs.Readings.{listing}
-use Rattle.readings.specs.declared.Answer.{Answer}
-use Rattle.readings.specs.Reads.{Reads}
-use Rattle.readings.specs.Answers.{Tells, Refuses, Lists}
+use Rattle.std.specs.Prelude.{Result, Ok, Err}
+use Rattle.types.specs.declared.refusal.Refusal.{Refusal}
+use Rattle.types.specs.declared.refusal.Refusal.TheVariants.{ListShort}
+use Rattle.readings.specs.Reads.{Reads, Lists}
 use Rattle.readings.proofs.Written.{reads_list}
 use Rattle.entry_lists.specs.Runs.{Ran}
 
@@ -81,36 +86,41 @@ module _ {A : Type 0} (words : A → List ℕ) (k : ℕ) (each : (x : A) → len
       ∙ take-append-le (length all) all (drop (length all) before) (omega arith)
       ∙ take_all (length all) all (omega arith)
 
-  pub reads-run : (items : List A) (before after : List ℕ) (n : ℕ) (p : Plain) (m : ℕ) (lent out : List ℕ) (r : Answer) → m ≡ 0 → Ran words k items before 0 after n →
+  pub reads-run : (items : List A) (before after : List ℕ) (n : ℕ) (p : Plain) (m : ℕ) (lent out : List ℕ) (r : Result ℕ Refusal) → m ≡ 0 → Ran words k items before 0 after n →
       Lists (take (k * n) after) n lent out r → Reads (listing m (length lent) words items p) lent out r
   reads-run items before after n p m lent out r z h w =
       let count : n ≡ length items = omega (arith, h.end) in
       reads_list words items p m lent out r z (rw count at (rw (front items before after n h) at w))
 
   -- a lent list that is too short for so many items, and one that was run into from its front
-  pub reads_none : (items : List A) (p : Plain) (lent : List ℕ) (r : Answer) → length lent < k * length items → Refuses 9 r →
-      Reads (listing 0 (length lent) words items p) lent lent r
-  reads_none items p lent r h w =
+  pub reads_none : (items : List A) (p : Plain) (lent : List ℕ) → length lent < k * length items → Reads (listing 0 (length lent) words items p) lent lent (Err ListShort)
+  reads_none items p lent h =
       let t : too_short (length lent) (concat_map words items) ≡ true = rw (length-words words k each items) (lt-ltb (length lent) (k * length items) h) in
-      reads_list words items p 0 lent lent r refl (record { refused = rw t w.refused; answer = rw t w.answer; wrote = rw t })
+      reads_list words items p 0 lent lent (Err ListShort) refl (record { refused = rw t; answer = rw t; wrote = rw t })
 
-  pub reads_all : (items : List A) (p : Plain) (lent after : List ℕ) (n : ℕ) (r : Answer) → Ran words k items lent 0 after n → Tells n r →
-      Reads (listing 0 (length lent) words items p) lent after r
-  reads_all items p lent after n r h w =
+  pub reads_all : (items : List A) (p : Plain) (lent after : List ℕ) (n : ℕ) → Ran words k items lent 0 after n →
+      Reads (listing 0 (length lent) words items p) lent after (Ok n)
+  reads_all items p lent after n h =
       let all = concat_map words items in
       let size : length all ≤ length lent = omega (arith, h.room, h.end, ap (λ i. k * i) h.end, length-words words k each items) in
       let t : too_short (length lent) all ≡ false = le-ltb (length lent) (length all) size in
       let start : k * 0 ≡ 0 = omega arith in
-      reads_list words items p 0 lent after r refl
+      reads_list words items p 0 lent after (Ok n) refl
       (record {
-        refused = rw t w.refused;
-        answer = rw t (omega (arith, w.answer, h.end));
+        refused = rw t;
+        answer = rw t (omega (arith, h.end));
         wrote = rw t (h.wrote ∙ ap (λ i. sets lent i all) start ∙ sets_front lent all size);
       })
 
--- the words of one item, the transaction put down and then the others one by one
-pub two_sets : (l m : List ℕ) (n a b : ℕ) → m ≡ set l n a → set m (n + 1) b ≡ sets l n (a ∷ b ∷ [])
-two_sets l m n a b p = rw (p, add-one n)
-
-pub five_sets : (l m : List ℕ) (n a b c d e : ℕ) → m ≡ set l n a → set (set (set (set m (n + 1) b) (n + 2) c) (n + 3) d) (n + 4) e ≡ sets l n (a ∷ b ∷ c ∷ d ∷ e ∷ [])
-five_sets l m n a b c d e p = rw (p, add-one n, add-two n, add-three n, add-four n)
+-- the words of an item, those of its transaction put down and then the others behind them
+pub words_put : (l m ys : List ℕ) (t n : ℕ) (others : List ℕ) (k : ℕ) → m ≡ sets l n (t ∷ []) → ys ≡ others → n + 1 + length others ≤ length l → k ≡ length others →
+    put_mid (n + 1) k m ys ≡ sets l n (t ∷ others)
+words_put l m ys t n others k p e b q =
+    let size : length m ≡ length l = ap length p ∙ length-set l n t in
+    put_mid-paste (n + 1) k m ys others k e refl q
+    ∙ paste_all m (n + 1) others k q
+    ∙ ap (λ i. take (n + 1) m ++ (others ++ drop (n + 1 + i) m)) q
+    ∙ sym (append_assoc (take (n + 1) m) others (drop (n + 1 + length others) m))
+    ∙ sym (sets-eq others m (n + 1) (omega (arith, size)))
+    ∙ ap (λ i. sets m i others) (add-one n)
+    ∙ ap (λ x. sets x (suc n) others) p

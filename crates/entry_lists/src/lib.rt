@@ -3,9 +3,13 @@
 // be so many that an array for them would cost more than a pass that counts them: they are written at once.
 #![tactic(auto)]
 
-ghost use Rattle.std.specs.Prelude.{◌≡◌, ◌&&◌, ◌+◌, ◌*◌, ◌≤◌, ◌<◌, ◌^◌, eqb, length};
+ghost use Rattle.std.specs.Prelude.{◌≡◌, ◌&&◌, ◌+◌, ◌*◌, ◌≤◌, ◌<◌, ◌^◌, ◌++◌, eqb, length};
+ghost use Rattle.std.proofs.lemmas.List.Edits.{sets};
+ghost use Rattle.rules.specs.Words.{transaction_size, transaction_words};
+ghost use Rattle.types.specs.Transactions.{number_of};
 ghost use Rattle.rules.specs.Readings.{read, ask_questions, list_past_deadline, list_issuers, questions, questions_of, question_words, past_deadline, term_words, issuers_of, issuer_words};
 ghost use Rattle.rules.specs.Good.{GoodEntry};
+ghost use Rattle.rules.specs.Numbers.{max_entries};
 ghost use Rattle.rules.specs.Widths.{question_size, term_size, term_room, issuer_size, issuer_room};
 ghost use Rattle.entry.specs.Entry.{plain_entry, Fits};
 ghost use Rattle.ledger.specs.Contents.{contents, Held};
@@ -13,57 +17,54 @@ ghost use Rattle.readings.specs.Reads.{Reads};
 ghost use Rattle.entry_lists.specs.Tests.{is_asking, asks_of, is_past, holds_id};
 ghost use Rattle.entry_lists.specs.Runs.{Ran};
 
-use entry::Entry;
+use entry::{Certificate, Entry};
 use ledger::Ledger;
-use readings::Answer;
-use readings::reply::{answer, list, refusal};
+use readings::reply::list;
+use types::refusal::Refusal;
 use types::widths::{ISSUER_WORDS, ISSUERS_ROOM, QUESTION_WORDS, TERM_WORDS, TERMS_ROOM};
-use types::{Shard, Time};
+use types::{Shard, Time, Transaction};
 
-// Whether the entry asks: an uncovered core.
-fn is_asking(e: Entry) -> bool
-    requires { Fits e }
-    ensures { result ≡ is_asking (plain_entry e) }
+// An item put down at a place: the words of its transaction, and then the others.
+fn put_item(tx: Transaction, others: &[u64], words: &mut [u64], at: usize)
+    requires { at + transaction_size + length others.now ≤ length words.old }
+    ensures { words.new ≡ sets words.old at (transaction_words (number_of tx) ++ others.now) }
 {
-    let part = e.part;
-    if !part.is_core() {
-        return false;
-    }
-    !e.covered()
+    tx.put(words, at);
+    let from = at + 1;
+    words[from..from + others.len()].copy_from_slice(others);
 }
 
-// The entry's questions, five words each, put behind those that are there; how many there are then. The core is taken out of the entry
-// first, so that the entry needs no copy.
-fn put_questions(e: Entry, local: Shard, from: usize, words: &mut [u64]) -> usize
-    requires { Fits e × (question_size * (from + length (asks_of local.0 (plain_entry e))) ≤ length words.old) }
-    ensures { Ran question_words question_size (asks_of local.0 (plain_entry e)) words.old from words.new result }
+// Whether the entry asks: an uncovered core.
+#[tactic(auto, unfolding(entry::specs::Entry::plain_entry))]
+fn is_asking(e: &Entry) -> bool
+    requires { Fits e.now }
+    ensures { result ≡ is_asking (plain_entry e.now) }
 {
-    let n = e.core_len as usize;
-    let core = e.core;
+    e.part.is_core() && !e.covered()
+}
+
+// The entry's questions, five words each, put behind those that are there; how many there are then.
+fn put_questions(e: &Entry, local: Shard, from: usize, words: &mut [u64]) -> usize
+    requires { Fits e.now × (question_size * (from + length (asks_of local.0 (plain_entry e.now))) ≤ length words.old) }
+    ensures { Ran question_words question_size (asks_of local.0 (plain_entry e.now)) words.old from words.new result }
+{
     let mut count = from;
-    let mut i: usize = 0;
-    while i < n {
-        let shard = Shard(core[i]);
-        if shard.0 == local.0 {
-            i += 1;
-        } else {
-            let at = QUESTION_WORDS * count;
-            e.tx.put(words, at);
-            words[at + 1] = shard.0;
-            words[at + 2] = types::cell_key(e.tx, e.end, shard);
-            words[at + 3] = e.at.0;
-            words[at + 4] = e.end.0;
+    let n = e.core_len as usize;
+    for shard in &e.core[..n] {
+        if *shard != local.0 {
+            let key = types::cell_key(e.tx, e.end, Shard(*shard));
+            let others = [*shard, key, e.at.0, e.end.0];
+            put_item(e.tx, &others, words, QUESTION_WORDS * count);
             count += 1;
-            i += 1;
         }
     }
     count
 }
 
 // How many questions the entry asks. A core has local in it, of which nothing is asked.
-fn asks(e: Entry, local: Shard) -> usize
-    requires { Fits e × GoodEntry local.0 (plain_entry e) }
-    ensures { (result ≡ length (questions_of local.0 (plain_entry e))) × (result ≤ 8) }
+fn asks(e: &Entry, local: Shard) -> usize
+    requires { Fits e.now × GoodEntry local.0 (plain_entry e.now) }
+    ensures { (result ≡ length (questions_of local.0 (plain_entry e.now))) × (result ≤ 8) }
 {
     if is_asking(e) {
         return e.core_len as usize - 1;
@@ -71,96 +72,81 @@ fn asks(e: Entry, local: Shard) -> usize
     0
 }
 
-// Each core shard but local of each uncovered core entry, with its cell key. They are counted and written here, since a function for either
-// would be handed a copy of the ledger.
-pub fn questions(ledger: Ledger, lent: &mut [u64]) -> Answer
+// How many questions there are.
+fn count_questions(ledger: &Ledger) -> usize
+    requires { Held ledger.now }
+    ensures { (result ≡ length (questions (contents ledger.now))) × (result ≤ 8 * max_entries) }
+{
+    let mut count = 0;
+    for slot in &ledger.roster.slots[..ledger.roster.len] {
+        count += asks(&ledger.entries[*slot], ledger.local);
+    }
+    count
+}
+
+// The questions, written from the front on; how many there are.
+fn write_questions(ledger: &Ledger, lent: &mut [u64]) -> usize
+    requires { Held ledger.now × (question_size * length (questions (contents ledger.now)) ≤ length lent.old) }
+    ensures { Ran question_words question_size (questions (contents ledger.now)) lent.old 0 lent.new result }
+{
+    let mut count = 0;
+    for slot in &ledger.roster.slots[..ledger.roster.len] {
+        let e = &ledger.entries[*slot];
+        if is_asking(e) {
+            count = put_questions(e, ledger.local, count, lent);
+        }
+    }
+    count
+}
+
+// Each core shard but local of each uncovered core entry, with its cell key.
+pub fn questions(ledger: Ledger, lent: &mut [u64]) -> Result<u64, Refusal>
     requires { Held ledger }
     ensures { Reads (read (ask_questions (length lent.old)) (contents ledger)) lent.old lent.new result }
 {
-    let roster = ledger.roster;
-    let n = roster.len;
-    let mut count: usize = 0;
-    let mut i: usize = 0;
-    while i < n {
-        let slot = roster.slots[i];
-        let e = ledger.entries[slot];
-        count += asks(e, ledger.local);
-        i += 1;
+    if lent.len() < QUESTION_WORDS * count_questions(&ledger) {
+        return Err(Refusal::ListShort);
     }
-    if lent.len() < QUESTION_WORDS * count {
-        return refusal(9);
-    }
-    let mut written: usize = 0;
-    let mut k: usize = 0;
-    while k < n {
-        let slot = roster.slots[k];
-        let e = ledger.entries[slot];
-        if is_asking(e) {
-            written = put_questions(e, ledger.local, written, lent);
-            k += 1;
-        } else {
-            k += 1;
-        }
-    }
-    answer(written as u64)
+    Ok(write_questions(&ledger, lent) as u64)
 }
 
 // Whether the entry is past its deadline and no settlement ends it.
-fn is_past(e: Entry, validity: u64, time: Time) -> bool
-    requires { Fits e × (e.at.0 < 2 ^ 48) × (validity < 2 ^ 48) }
-    ensures { result ≡ is_past validity time.0 (plain_entry e) }
+#[tactic(auto, unfolding(entry::specs::Entry::plain_entry))]
+fn is_past(e: &Entry, validity: u64, time: Time) -> bool
+    requires { Fits e.now × (e.now.at.0 < 2 ^ 48) × (validity < 2 ^ 48) }
+    ensures { result ≡ is_past validity time.0 (plain_entry e.now) }
 {
-    let part = e.part;
-    if part.is_settling() {
-        return false;
-    }
-    if time.0 < e.at.0 {
-        return false;
-    }
-    if e.covered() {
-        return true;
-    }
-    let is_unexecuted = e.certified < 2;
-    is_unexecuted || time.0 < e.at.0 + validity
+    let is_unexecuted = e.certified < Certificate::ByExecution;
+    let is_held = e.covered() || is_unexecuted || time.0 < e.at.0 + validity;
+    !e.part.is_settling() && e.at <= time && is_held
 }
 
-fn gather_past(ledger: Ledger, time: Time, words: &mut [u64; TERMS_ROOM]) -> usize
-    requires { Held ledger × (length words.old ≡ term_room) }
-    ensures { Ran term_words term_size (past_deadline time.0 (contents ledger)) words.old 0 words.new result }
+fn gather_past(ledger: &Ledger, time: Time, words: &mut [u64; TERMS_ROOM]) -> usize
+    requires { Held ledger.now × (length words.old ≡ term_room) }
+    ensures { Ran term_words term_size (past_deadline time.0 (contents ledger.now)) words.old 0 words.new result }
 {
-    let roster = ledger.roster;
-    let n = roster.len;
-    let mut count: usize = 0;
-    let mut i: usize = 0;
-    while i < n {
-        let slot = roster.slots[i];
-        let e = ledger.entries[slot];
+    let mut count = 0;
+    for slot in &ledger.roster.slots[..ledger.roster.len] {
+        let e = &ledger.entries[*slot];
         if is_past(e, ledger.validity, time) {
-            let at = TERM_WORDS * count;
-            e.tx.put(words, at);
-            words[at + 1] = e.at.0;
-            words[at + 2] = e.end.0;
-            words[at + 3] = e.anchor.0;
-            words[at + 4] = e.charge;
+            let others = [e.at.0, e.end.0, e.anchor.0, e.charge];
+            put_item(e.tx, &others, words, TERM_WORDS * count);
             count += 1;
-            i += 1;
-        } else {
-            i += 1;
         }
     }
     count
 }
 
 // The entries past their deadline that no settlement ends.
-pub fn past_deadline(ledger: Ledger, time: Time, lent: &mut [u64]) -> Answer
+pub fn past_deadline(ledger: Ledger, time: Time, lent: &mut [u64]) -> Result<u64, Refusal>
     requires { Held ledger }
     ensures { Reads (read (list_past_deadline time.0 (length lent.old)) (contents ledger)) lent.old lent.new result }
 {
     if !types::is_time(time.0) {
-        return refusal(3);
+        return Err(Refusal::NoTime);
     }
-    let mut words = [0u64; TERMS_ROOM];
-    let n = gather_past(ledger, time, &mut words);
+    let mut words = [0; TERMS_ROOM];
+    let n = gather_past(&ledger, time, &mut words);
     list(&words, TERM_WORDS * n, n, lent)
 }
 
@@ -168,57 +154,42 @@ pub fn past_deadline(ledger: Ledger, time: Time, lent: &mut [u64]) -> Answer
 fn is_crossing(from: Shard, held: u64, local: Shard, id: u64) -> bool
     ensures { result ≡ eqb from.0 local.0 && eqb held id }
 {
-    from.0 == local.0 && held == id
+    from == local && held == id
 }
 
-// Whether an edge from local has this very id. The two arrays are taken out of the entry first, so that the entry needs no copy.
-fn issues_id(e: Entry, local: Shard, id: u64) -> bool
-    requires { Fits e }
-    ensures { result ≡ holds_id local.0 id (plain_entry e) }
+// Whether an edge from local has this very id.
+fn issues_id(e: &Entry, local: Shard, id: u64) -> bool
+    requires { Fits e.now }
+    ensures { result ≡ holds_id local.0 id (plain_entry e.now) }
 {
     let n = e.edges_len as usize;
-    let froms = e.froms;
-    let ids = e.ids;
-    let mut i: usize = 0;
-    while i < n {
-        if is_crossing(Shard(froms[i]), ids[i], local, id) {
-            return true;
-        }
-        i += 1;
-    }
-    false
+    e.froms[..n]
+        .iter()
+        .zip(&e.ids[..n])
+        .any(|(from, held)| is_crossing(Shard(*from), *held, local, id))
 }
 
-fn gather_issuers(ledger: Ledger, id: u64, words: &mut [u64; ISSUERS_ROOM]) -> usize
-    requires { Held ledger × (length words.old ≡ issuer_room) }
-    ensures { Ran issuer_words issuer_size (issuers_of id (contents ledger)) words.old 0 words.new result }
+fn gather_issuers(ledger: &Ledger, id: u64, words: &mut [u64; ISSUERS_ROOM]) -> usize
+    requires { Held ledger.now × (length words.old ≡ issuer_room) }
+    ensures { Ran issuer_words issuer_size (issuers_of id (contents ledger.now)) words.old 0 words.new result }
 {
-    let roster = ledger.roster;
-    let n = roster.len;
-    let mut count: usize = 0;
-    let mut i: usize = 0;
-    while i < n {
-        let slot = roster.slots[i];
-        let e = ledger.entries[slot];
+    let mut count = 0;
+    for slot in &ledger.roster.slots[..ledger.roster.len] {
+        let e = &ledger.entries[*slot];
         if issues_id(e, ledger.local, id) {
-            let at = ISSUER_WORDS * count;
-            e.tx.put(words, at);
-            words[at + 1] = e.end.0;
+            put_item(e.tx, &[e.end.0], words, ISSUER_WORDS * count);
             count += 1;
-            i += 1;
-        } else {
-            i += 1;
         }
     }
     count
 }
 
 // Those that issued this very id. An edge from local that has the id is in the index under the id's key, which is thus not asked.
-pub fn issuers_of(ledger: Ledger, id: u64, lent: &mut [u64]) -> Answer
+pub fn issuers_of(ledger: Ledger, id: u64, lent: &mut [u64]) -> Result<u64, Refusal>
     requires { Held ledger }
     ensures { Reads (read (list_issuers id (length lent.old)) (contents ledger)) lent.old lent.new result }
 {
-    let mut words = [0u64; ISSUERS_ROOM];
-    let n = gather_issuers(ledger, id, &mut words);
+    let mut words = [0; ISSUERS_ROOM];
+    let n = gather_issuers(&ledger, id, &mut words);
     list(&words, ISSUER_WORDS * n, n, lent)
 }
