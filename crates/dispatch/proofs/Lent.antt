@@ -6,7 +6,8 @@ use mathlib.Core.List.{List, [], ◌∷◌, append-nil}
 use Rattle.rules.specs.Outcome.{Outcome}
 use Rattle.ledger.specs.declared.Done.{Done}
 use Rattle.ledger.specs.Meets.{Meets, written}
-use Rattle.readings.specs.declared.Answer.{Answer}
+use Rattle.std.specs.Prelude.{Result}
+use Rattle.types.specs.declared.refusal.Refusal.{Refusal}
 use Rattle.readings.specs.Reads.{Reads}
 
 -- what is written of no words into no list is nothing
@@ -24,6 +25,6 @@ beside o r lent m =
       held = m.held;
     }
 
-pub beside_reading : (o : Outcome) (r : Answer) (lent : List ℕ) → Reads o [] [] r → Reads o lent lent r
+pub beside_reading : (o : Outcome) (r : Result ℕ Refusal) (lent : List ℕ) → Reads o [] [] r → Reads o lent lent r
 beside_reading o r lent m =
     record { refused = m.refused; answer = m.answer; wrote = rw (nothing o.words m.wrote) refl }

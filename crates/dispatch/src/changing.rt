@@ -3,7 +3,6 @@ ghost use Rattle.std.specs.Prelude.{◌≡◌, cond, map, length};
 ghost use Rattle.ledger.specs.Contents.{Held};
 ghost use Rattle.dispatch.specs.Changing.{call_of, Turned};
 
-use crate::fill;
 use batches::abandonment::record_abandonment;
 use batches::finalization::release_resolved;
 use calls::admission::register_committed;
@@ -22,7 +21,7 @@ fn refill(lent: &mut [u64], word: u64, is_further: bool)
     ensures { lent.new ≡ cond is_further (map (λ w. word) lent.old) lent.old }
 {
     if is_further {
-        fill(lent, word);
+        lent.fill(word);
     }
 }
 
@@ -48,14 +47,11 @@ pub fn apply(
     let tx = Transaction::read(words, 0);
     let second = Transaction::read(words, 1);
     let mut done = Done {
-        refused: 0,
-        answers: [0, 0, 0],
+        said: Ok([0, 0, 0]),
         ledger,
     };
-    let mut left = turns;
-    while 0 < left {
-        refill(lent, blank, left < turns);
-        left -= 1;
+    for i in 0..turns {
+        refill(lent, blank, 0 < i);
         match kind {
             1 => done = register_committed(done.ledger, words),
             2 => done = record_absence(done.ledger, tx, Shard(b), c),

@@ -4,16 +4,3 @@
 
 pub mod changing;
 pub mod reading;
-
-ghost use Rattle.std.specs.Prelude.{◌≡◌, map};
-
-// The word in every place.
-pub fn fill(lent: &mut [u64], word: u64)
-    ensures { lent.new ≡ map (λ w. word) lent.old }
-{
-    let mut i: usize = 0;
-    while i < lent.len() {
-        lent[i] = word;
-        i += 1;
-    }
-}

@@ -1,6 +1,8 @@
 // The readings by their kinds, an arm for each.
-ghost use Rattle.std.specs.Prelude.{[], length};
+ghost use Rattle.std.specs.Prelude.{◌≡◌, [], length};
 ghost use Rattle.rules.specs.Readings.{read};
+ghost use Rattle.rules.specs.Words.{word};
+ghost use Rattle.types.specs.Transactions.{number_of};
 ghost use Rattle.ledger.specs.Contents.{Held, contents};
 ghost use Rattle.readings.specs.Reads.{Reads};
 ghost use Rattle.dispatch.specs.Reading.{reading_of, lookup_of, question_open, question_answered};
@@ -8,12 +10,14 @@ ghost use Rattle.dispatch.specs.Reading.{reading_of, lookup_of, question_open, q
 use entry_lists::{issuers_of, past_deadline, questions};
 use ledger::Ledger;
 use lists::slices::word_at;
-use readings::{Answer, lookups};
+use readings::lookups;
+use readings::lookups::Question;
 use shard_lists::{claimants, counterparts, reach, unstamped_departures};
+use types::refusal::Refusal;
 use types::{RecordKey, Shard, Time, Transaction};
 
 // The reading of a kind. Words that are missing count as 0, and a reading that takes no list leaves the lent one as it is.
-pub fn ask(ledger: Ledger, kind: u64, words: &[u64], lent: &mut [u64]) -> Answer
+pub fn ask(ledger: Ledger, kind: u64, words: &[u64], lent: &mut [u64]) -> Result<u64, Refusal>
     requires { Held ledger }
     ensures { Reads (read (reading_of kind words.now (length lent.old)) (contents ledger)) lent.old lent.new result }
 {
@@ -34,7 +38,7 @@ pub fn ask(ledger: Ledger, kind: u64, words: &[u64], lent: &mut [u64]) -> Answer
 
 // A lookup: a reading that is lent no list.
 #[tactic(auto, unfolding(crate::specs::Reading::lookup_of))]
-fn look_up(ledger: Ledger, kind: u64, words: &[u64]) -> Answer
+fn look_up(ledger: Ledger, kind: u64, words: &[u64]) -> Result<u64, Refusal>
     requires { Held ledger }
     ensures { Reads (read (lookup_of kind words.now) (contents ledger)) [] [] result }
 {
@@ -56,29 +60,36 @@ fn look_up(ledger: Ledger, kind: u64, words: &[u64]) -> Answer
     }
 }
 
-// A question as it is handed in, transaction, shard, key, at, end, and then the clock.
-fn open_at(ledger: Ledger, words: &[u64]) -> Answer
+// A question as it is handed in: transaction, shard, key, at and end.
+fn question(words: &[u64]) -> Question
+    ensures transaction { number_of result.tx ≡ word 0 words.now }
+    ensures shard { result.shard.0 ≡ word 1 words.now }
+    ensures key { result.key ≡ word 2 words.now }
+    ensures at { result.at.0 ≡ word 3 words.now }
+    ensures end { result.end.0 ≡ word 4 words.now }
+{
+    Question {
+        tx: Transaction::read(words, 0),
+        shard: Shard(word_at(words, 1)),
+        key: word_at(words, 2),
+        at: Time(word_at(words, 3)),
+        end: Time(word_at(words, 4)),
+    }
+}
+
+// Behind a question the clock.
+fn open_at(ledger: Ledger, words: &[u64]) -> Result<u64, Refusal>
     requires { Held ledger }
     ensures { Reads (read (question_open words.now) (contents ledger)) [] [] result }
 {
-    let tx = Transaction::read(words, 0);
-    let shard = Shard(word_at(words, 1));
-    let at = Time(word_at(words, 3));
-    let end = Time(word_at(words, 4));
-    let time = Time(word_at(words, 5));
-    lookups::open_at(ledger, tx, shard, word_at(words, 2), at, end, time)
+    lookups::open_at(ledger, question(words), Time(word_at(words, 5)))
 }
 
-// A question as it is handed in, then when the cell was read and what was found.
-fn answers(ledger: Ledger, words: &[u64]) -> Answer
+// Behind a question when the cell was read and what was found.
+fn answers(ledger: Ledger, words: &[u64]) -> Result<u64, Refusal>
     requires { Held ledger }
     ensures { Reads (read (question_answered words.now) (contents ledger)) [] [] result }
 {
-    let tx = Transaction::read(words, 0);
-    let shard = Shard(word_at(words, 1));
-    let key = word_at(words, 2);
-    let at = Time(word_at(words, 3));
-    let end = Time(word_at(words, 4));
     let read_at = Time(word_at(words, 5));
-    lookups::answers(ledger, tx, shard, key, at, end, read_at, word_at(words, 6))
+    lookups::answers(ledger, question(words), read_at, word_at(words, 6))
 }

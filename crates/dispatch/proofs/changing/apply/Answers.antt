@@ -1,84 +1,47 @@
--- `apply` meets its contract: each arm makes the call of its kind, and a turn goes on from the one before.
--- Assumes nothing.
-use borrow.Author.Rules.{rules}
+-- Each arm makes the call of its kind, and a turn goes on from the one before.
 use borrow.Author.Tests.{ne_eqb}
-use mathlib.Core.Path.{◌∙◌}
-use native.Mathlib.Omega.{arith}
+use mathlib.Core.Path.{◌≡◌, ◌∙◌}
+use mathlib.Core.List.{List}
+use lib.ListN.{length}
+use Prim.Native.Nat.{ℕ, ◌+◌}
+use Rattle.rules.specs.Calls.{step}
+use Rattle.ledger.specs.declared.Done.{Done}
+use Rattle.ledger.specs.Contents.{contents}
+use Rattle.ledger.specs.Meets.{Meets}
 use Rattle.dispatch.specs.Changing.{call_of}
 use Rattle.dispatch.proofs.Lent.{beside}
-use Rattle.dispatch.proofs.Turns.{going_on, begun, ended}
+use Rattle.dispatch.proofs.Turns.{Going, going_on, begun, ended}
 use Rattle.dispatch.proofs.changing.apply.Goals as goal
+use Rattle.dispatch.proofs.changing.apply.Goals.{in-1, in-2, in-3, in-4, in-5, in-6, in-7, in-8, in-9, in-10, in-11, in-12, in_default}
 
-pub loop-left-init : goal.loop-left-init
-loop-left-init c = begun _ _ _ _ _ c.requires
-
-pub loop-left-preserved-in-1 : goal.loop-left-preserved-in-1
+pub loop-i-preserved : goal.loop-i-preserved
 unfolding call_of
-loop-left-preserved-in-1 c =
-    going_on _ _ _ _ _ _ _ _ _ _ c.loop-left.left c.loop-left.invariant (omega arith) c.refill.ensures (simp c.in-1.is (beside _ _ _ c.register_committed-done.ensures)) (c.refill.auto.lent ∙ c.loop-left.invariant.same)
+loop-i-preserved c =
+    let call = call_of c.args.kind c.args.words.now (length c.args.lent.now) in
+    let same : length c.refill.new.lent ≡ length c.args.lent.now = c.refill.auto.lent ∙ c.loop-i.invariant.same in
+    let on : (later : List ℕ) (s : Done) → Meets (step call (contents c.loop-i.done.ledger)) c.refill.new.lent later s → length later ≡ length c.args.lent.now →
+    Going c.args.blank call c.args.ledger c.args.lent.now later s (c.loop-i.i + 1) =
+    λ later s m e. going_on _ _ _ _ _ _ _ _ _ c.loop-i.i c.loop-i.invariant c.refill.ensures m e in
+    elim c.match-kind.branch [
+      | in-1 w ↦ rw (w.lent-is, w.done-is) (on _ w.register_committed-done.result (simp w.in-1.is (beside _ _ _ w.register_committed-done.ensures)) same)
+      | in-2 w ↦ rw (w.lent-is, w.done-is) (on _ w.record_absence-done.result (simp (w.in-2.is, ← c.read-tx.ensures, ← c.word_at-b.ensures, ← c.word_at-c.ensures) (beside _ _ _ w.record_absence-done.ensures)) same)
+      | in-3 w ↦ rw (w.lent-is, w.done-is) (on _ w.certify-done.result (simp (w.in-3.is, ← c.read-tx.ensures, ← c.word_at-b.ensures) (beside _ _ _ w.certify-done.ensures)) same)
+      | in-4 w ↦ rw (w.lent-is, w.done-is) (on _ w.record_abandonment-done.result (simp w.in-4.is (beside _ _ _ w.record_abandonment-done.ensures)) same)
+      | in-5 w ↦ rw (w.lent-is, w.done-is) (on _ w.settled-done.result (simp (w.in-5.is, ← c.word_at-a.ensures, ← c.read-second.ensures) (beside _ _ _ w.settled-done.ensures)) same)
+      | in-6 w ↦ rw (w.lent-is, w.done-is) (on _ w.returned-done.result (simp (w.in-6.is, ← c.word_at-a.ensures, ← c.read-second.ensures) (beside _ _ _ w.returned-done.ensures)) same)
+      | in-7 w ↦ rw (w.lent-is, w.done-is) (on _ w.closes-done.result (simp (w.in-7.is, ← same) w.closes-done.ensures) (w.closes-done.auto.lent ∙ same))
+      | in-8 w ↦ rw (w.lent-is, w.done-is) (on _ w.fated-done.result (simp (w.in-8.is, ← c.read-tx.ensures) (beside _ _ _ w.fated-done.ensures)) same)
+      | in-9 w ↦ rw (w.lent-is, w.done-is) (on _ w.release_resolved-done.result (simp w.in-9.is (beside _ _ _ w.release_resolved-done.ensures)) same)
+      | in-10 w ↦ rw (w.lent-is, w.done-is) (on _ w.forget-done.result (simp (w.in-10.is, ← c.read-tx.ensures) (beside _ _ _ w.forget-done.ensures)) same)
+      | in-11 w ↦ rw (w.lent-is, w.done-is) (on _ w.record_terminal-done.result (simp (w.in-11.is, ← c.word_at-a.ensures, ← c.word_at-b.ensures, ← c.word_at-c.ensures, ← c.word_at-d.ensures) (beside _ _ _ w.record_terminal-done.ensures)) same)
+      | in-12 w ↦ rw (w.lent-is, w.done-is) (on _ w.stamp_terminal-done.result (simp (w.in-12.is, ← c.word_at-a.ensures, ← c.word_at-b.ensures) (beside _ _ _ w.stamp_terminal-done.ensures)) same)
+      | in_default w ↦
+          let k = w.in_default.in_default-own.rest in
+          rw (w.lent-is, w.done-is) (on _ w.prune-done.result (simp (ne_eqb _ _ k.0.0.0.0.0.0.0.0.0.0.0.1, ne_eqb _ _ k.0.0.0.0.0.0.0.0.0.0.1, ne_eqb _ _ k.0.0.0.0.0.0.0.0.0.1, ne_eqb _ _ k.0.0.0.0.0.0.0.0.1, ne_eqb _ _ k.0.0.0.0.0.0.0.1, ne_eqb _ _ k.0.0.0.0.0.0.1, ne_eqb _ _ k.0.0.0.0.0.1, ne_eqb _ _ k.0.0.0.0.1, ne_eqb _ _ k.0.0.0.1, ne_eqb _ _ k.0.0.1, ne_eqb _ _ k.0.1, ne_eqb _ _ k.1, ← c.word_at-a.ensures, ← same) w.prune-done.ensures) (w.prune-done.auto.lent ∙ same))
+    ]
 
-pub loop-left-preserved-in-2 : goal.loop-left-preserved-in-2
-unfolding call_of
-loop-left-preserved-in-2 c =
-    going_on _ _ _ _ _ _ _ _ _ _ c.loop-left.left c.loop-left.invariant (omega arith) c.refill.ensures (simp (c.in-2.is, ← c.read-tx.ensures, ← c.word_at-b.ensures, ← c.word_at-c.ensures) (beside _ _ _ c.record_absence-done.ensures)) (c.refill.auto.lent ∙ c.loop-left.invariant.same)
-
-pub loop-left-preserved-in-3 : goal.loop-left-preserved-in-3
-unfolding call_of
-loop-left-preserved-in-3 c =
-    going_on _ _ _ _ _ _ _ _ _ _ c.loop-left.left c.loop-left.invariant (omega arith) c.refill.ensures (simp (c.in-3.is, ← c.read-tx.ensures, ← c.word_at-b.ensures) (beside _ _ _ c.certify-done.ensures)) (c.refill.auto.lent ∙ c.loop-left.invariant.same)
-
-pub loop-left-preserved-in-4 : goal.loop-left-preserved-in-4
-unfolding call_of
-loop-left-preserved-in-4 c =
-    going_on _ _ _ _ _ _ _ _ _ _ c.loop-left.left c.loop-left.invariant (omega arith) c.refill.ensures (simp c.in-4.is (beside _ _ _ c.record_abandonment-done.ensures)) (c.refill.auto.lent ∙ c.loop-left.invariant.same)
-
-pub loop-left-preserved-in-5 : goal.loop-left-preserved-in-5
-unfolding call_of
-loop-left-preserved-in-5 c =
-    going_on _ _ _ _ _ _ _ _ _ _ c.loop-left.left c.loop-left.invariant (omega arith) c.refill.ensures (simp (c.in-5.is, ← c.word_at-a.ensures, ← c.read-second.ensures) (beside _ _ _ (search rules))) (c.refill.auto.lent ∙ c.loop-left.invariant.same)
-
-pub loop-left-preserved-in-6 : goal.loop-left-preserved-in-6
-unfolding call_of
-loop-left-preserved-in-6 c =
-    going_on _ _ _ _ _ _ _ _ _ _ c.loop-left.left c.loop-left.invariant (omega arith) c.refill.ensures (simp (c.in-6.is, ← c.word_at-a.ensures, ← c.read-second.ensures) (beside _ _ _ (search rules))) (c.refill.auto.lent ∙ c.loop-left.invariant.same)
-
-pub loop-left-preserved-in-7 : goal.loop-left-preserved-in-7
-unfolding call_of
-loop-left-preserved-in-7 c =
-    going_on _ _ _ _ _ _ _ _ _ _ c.loop-left.left c.loop-left.invariant (omega arith) c.refill.ensures (simp (c.in-7.is, ← (c.refill.auto.lent ∙ c.loop-left.invariant.same)) c.closes-done.ensures) (c.closes-done.auto.lent ∙ (c.refill.auto.lent ∙ c.loop-left.invariant.same))
-
-pub loop-left-preserved-in-8 : goal.loop-left-preserved-in-8
-unfolding call_of
-loop-left-preserved-in-8 c =
-    going_on _ _ _ _ _ _ _ _ _ _ c.loop-left.left c.loop-left.invariant (omega arith) c.refill.ensures (simp (c.in-8.is, ← c.read-tx.ensures) (beside _ _ _ c.fated-done.ensures)) (c.refill.auto.lent ∙ c.loop-left.invariant.same)
-
-pub loop-left-preserved-in-9 : goal.loop-left-preserved-in-9
-unfolding call_of
-loop-left-preserved-in-9 c =
-    going_on _ _ _ _ _ _ _ _ _ _ c.loop-left.left c.loop-left.invariant (omega arith) c.refill.ensures (simp c.in-9.is (beside _ _ _ c.release_resolved-done.ensures)) (c.refill.auto.lent ∙ c.loop-left.invariant.same)
-
-pub loop-left-preserved-in-10 : goal.loop-left-preserved-in-10
-unfolding call_of
-loop-left-preserved-in-10 c =
-    going_on _ _ _ _ _ _ _ _ _ _ c.loop-left.left c.loop-left.invariant (omega arith) c.refill.ensures (simp (c.in-10.is, ← c.read-tx.ensures) (beside _ _ _ c.forget-done.ensures)) (c.refill.auto.lent ∙ c.loop-left.invariant.same)
-
-pub loop-left-preserved-in-11 : goal.loop-left-preserved-in-11
-unfolding call_of
-loop-left-preserved-in-11 c =
-    going_on _ _ _ _ _ _ _ _ _ _ c.loop-left.left c.loop-left.invariant (omega arith) c.refill.ensures (simp (c.in-11.is, ← c.word_at-a.ensures, ← c.word_at-b.ensures, ← c.word_at-c.ensures, ← c.word_at-d.ensures) (beside _ _ _ c.record_terminal-done.ensures)) (c.refill.auto.lent ∙ c.loop-left.invariant.same)
-
-pub loop-left-preserved-in-12 : goal.loop-left-preserved-in-12
-unfolding call_of
-loop-left-preserved-in-12 c =
-    going_on _ _ _ _ _ _ _ _ _ _ c.loop-left.left c.loop-left.invariant (omega arith) c.refill.ensures (simp (c.in-12.is, ← c.word_at-a.ensures, ← c.word_at-b.ensures) (beside _ _ _ c.stamp_terminal-done.ensures)) (c.refill.auto.lent ∙ c.loop-left.invariant.same)
-
-pub loop-left-preserved : goal.loop-left-preserved
-unfolding call_of
-loop-left-preserved c =
-    let k = c.in_default.in_default-own.rest in
-    going_on _ _ _ _ _ _ _ _ _ _ c.loop-left.left c.loop-left.invariant (omega arith) c.refill.ensures
-    (simp (ne_eqb _ _ k.0.0.0.0.0.0.0.0.0.0.0.1, ne_eqb _ _ k.0.0.0.0.0.0.0.0.0.0.1, ne_eqb _ _ k.0.0.0.0.0.0.0.0.0.1, ne_eqb _ _ k.0.0.0.0.0.0.0.0.1, ne_eqb _ _ k.0.0.0.0.0.0.0.1, ne_eqb _ _ k.0.0.0.0.0.0.1, ne_eqb _ _ k.0.0.0.0.0.1, ne_eqb _ _ k.0.0.0.0.1, ne_eqb _ _ k.0.0.0.1, ne_eqb _ _ k.0.0.1, ne_eqb _ _ k.0.1, ne_eqb _ _ k.1, ← c.word_at-a.ensures, ← (c.refill.auto.lent ∙ c.loop-left.invariant.same)) c.prune-done.ensures)
-    (c.prune-done.auto.lent ∙ (c.refill.auto.lent ∙ c.loop-left.invariant.same))
+pub loop-i-init : goal.loop-i-init
+loop-i-init c = begun _ _ _ _ c.requires
 
 pub returns : goal.returns
-returns c = ended _ _ _ _ _ _ _ c.loop-left.left c.loop-left.invariant (omega arith)
+returns c = ended _ _ _ _ _ _ _ c.loop-i.i c.loop-i.invariant c.loop-i-test.false c.loop-i.auto.i-end
