@@ -1,18 +1,25 @@
 -- What a line taken apart keeps to.
 -- Assumes nothing.
-use Rattle.std.specs.Prelude.{ℕ, ◌≤◌, ◌<◌, ◌≡◌, false}
-use Rattle.script.specs.Calls.{codes, count_of, takes_list}
-use Rattle.script.specs.declared.parts.Parsed.{Parsed}
+use Rattle.std.specs.Prelude.{ℕ, ◌<◌, ◌≡◌, false, true, List, take, drop, Some}
+use Rattle.script.specs.Calls.{code_of}
+use Rattle.script.specs.Grammar.{word_length, behind, numbers_of, is_remark}
+use Rattle.script.specs.declared.parts.Tail.{Tail}
+use Rattle.script.specs.declared.line.Line.{Line}
+use Rattle.script.specs.declared.line.Line.TheVariants.{Skip, Repeat, Call, Malformed}
 
--- a call takes this count of numbers: it is the call's own, unless it takes any
-pub record Takes (code count : ℕ) : Type 0 where
-  pub own : (count_of code ≡ 255 → ⊥) → count ≡ count_of code
+-- what a call's code and what stands behind its name make
+abbrev pub Fits : ℕ → Tail → Line → Type 0
+Fits code tail Skip = ⊥
+Fits code tail (Repeat times) = (code ≡ 0) × (0 < times)
+Fits code tail (Call call) = (call.code ≡ code) × (call.count ≡ tail.count)
+Fits code tail Malformed = ⊥
 
--- the code is known, the numbers and the lent words are within their arrays, a call with a fixed count has as many numbers, and one that
--- takes no list is lent none
-pub record Sound (p : Parsed) : Type 0 where
-  pub known : p.code < codes
-  pub numbers : p.count ≤ 2048
-  pub words : p.lent ≤ 4096
-  pub takes : Takes p.code p.count
-  pub none : takes_list p.code ≡ false → p.lent ≡ 0
+-- what a line is taken for: skipped just where it is empty or a remark; a call by its name, with the numbers that stand behind it in front of `numbers`
+abbrev pub Says : List ℕ → List ℕ → Line → Type 0
+Says line numbers Skip = is_remark line ≡ true
+Says line numbers (Repeat times) = (is_remark line ≡ false) × (0 < times)
+Says line numbers (Call call) =
+    (is_remark line ≡ false)
+    × (code_of (take (word_length line) line) ≡ Some call.code)
+    × (take call.count numbers ≡ numbers_of (behind (drop (word_length line) line)))
+Says line numbers Malformed = is_remark line ≡ false
