@@ -1,5 +1,5 @@
 -- What a line of a script does: the call that its code, numbers and lent list name, as often as it is made.
-use Rattle.std.specs.Prelude.{ℕ, zero, suc, ◌-◌, List, [], map, length}
+use Rattle.std.specs.Prelude.{ℕ, zero, suc, ◌-◌, List, [], map, get_or, length}
 use Rattle.rules.specs.Words.{word}
 use Rattle.rules.specs.Calls.{Call, making}
 use Rattle.rules.specs.Readings.{Reading, read}
@@ -11,6 +11,7 @@ use Rattle.readings.specs.declared.Answer.{Answer}
 use Rattle.readings.specs.Reads.{Reads}
 use Rattle.dispatch.specs.Changing.{call_of, Turned}
 use Rattle.dispatch.specs.Reading.{reading_of}
+use Rattle.replay.specs.declared.replies.Reply.{Reply}
 
 -- once, unless a `repeat` says how often
 abbrev pub turns_of : ℕ → ℕ
@@ -31,12 +32,19 @@ call_in code words room = call_of (code - 1) words room
 abbrev pub reading_in : ℕ → List ℕ → ℕ → Reading
 reading_in code words room = reading_of (code - 14) words room
 
-abbrev pub Renewed : List ℕ → Done → Type 0
-Renewed ws r = Meets (making (word 0 ws) (word 1 ws) (word 2 ws) (word 3 ws)) [] [] r
+-- what a call says, with the ledger after it, and what a reading says
+abbrev pub done_by : Reply → Ledger → Done
+done_by reply r = record { refused = reply.refused; answers = reply.answers; ledger = r }
 
--- of a line's code, numbers and lent list: what is said, and the list after it
-abbrev pub Changed : ℕ → List ℕ → ℕ → Ledger → List ℕ → List ℕ → Done → Type 0
-Changed code words times l was now r = Turned (turns_of times) fill_word (call_in code words (length was)) l (filled was) now r
+abbrev pub answer_by : Reply → Answer
+answer_by reply = record { refused = reply.refused; answer = get_or reply.answers 0 0 }
 
-abbrev pub Asked : ℕ → List ℕ → Ledger → List ℕ → List ℕ → Answer → Type 0
-Asked code words l was now r = Reads (read (reading_in code words (length was)) (contents l)) (filled was) now r
+abbrev pub Renewed : List ℕ → Reply → Ledger → Type 0
+Renewed ws reply r = Meets (making (word 0 ws) (word 1 ws) (word 2 ws) (word 3 ws)) [] [] (done_by reply r)
+
+-- of a line's code, numbers and lent list: what is said, the list after it, and the ledger after it
+abbrev pub Changed : ℕ → List ℕ → ℕ → Ledger → List ℕ → List ℕ → Reply → Ledger → Type 0
+Changed code words times l was now reply r = Turned (turns_of times) fill_word (call_in code words (length was)) l (filled was) now (done_by reply r)
+
+abbrev pub Asked : ℕ → List ℕ → Ledger → List ℕ → List ℕ → Reply → Type 0
+Asked code words l was now reply = Reads (read (reading_in code words (length was)) (contents l)) (filled was) now (answer_by reply)

@@ -3,17 +3,18 @@ ghost use Rattle.std.specs.Prelude.{◌<◌};
 ghost use Rattle.ledger.specs.Contents.{Held};
 ghost use Rattle.replay.specs.Lines.{Renewed, Changed};
 
+use crate::replies::Reply;
 use calls::making;
 use dispatch::changing;
-use ledger::{Done, Ledger};
+use ledger::Ledger;
 use lists::slices::word_at;
 use script::FILL;
 use script::calls::NEW;
 use types::Shard;
 
 // A making, as often as is said, and once at least.
-pub fn renew(words: &[u64], times: u64) -> Done
-    ensures { Renewed words.now result }
+pub fn renew(ledger: &mut Ledger, words: &[u64], times: u64) -> Reply
+    ensures { Renewed words.now result ledger.new }
 {
     let local = Shard(word_at(words, 0));
     let validity = word_at(words, 1);
@@ -23,15 +24,26 @@ pub fn renew(words: &[u64], times: u64) -> Done
     for _turn in 1..times {
         done = making::new(local, validity, core_span, leg_span);
     }
-    done
+    let answers = done.answers;
+    *ledger = done.ledger;
+    Reply {
+        refused: done.refused,
+        answers,
+    }
 }
 
 // The call of a code as often as is said, and once at least: each time on the ledger that the last handed back and on the list filled anew.
-pub fn apply(ledger: Ledger, code: usize, words: &[u64], list: &mut [u64], times: u64) -> Done
-    requires { Held ledger × (1 < code) }
-    ensures { Changed code words.now times ledger list.old list.new result }
+pub fn apply(ledger: &mut Ledger, code: usize, words: &[u64], list: &mut [u64], times: u64) -> Reply
+    requires { Held ledger.old × (1 < code) }
+    ensures { Changed code words.now times ledger.old list.old list.new result ledger.new }
 {
     let kind = (code - NEW) as u64;
     list.fill(FILL);
-    changing::apply(ledger, kind, words, list, times.max(1), FILL)
+    let done = changing::apply(*ledger, kind, words, list, times.max(1), FILL);
+    let answers = done.answers;
+    *ledger = done.ledger;
+    Reply {
+        refused: done.refused,
+        answers,
+    }
 }

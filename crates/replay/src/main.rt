@@ -1,8 +1,6 @@
 // Runs call scripts: reads a script on standard input, makes its calls on the ledger, and writes a line of answer for each.
 #![tactic(auto)]
 
-ghost use Rattle.ledger.specs.Contents.{Held};
-
 mod changing;
 mod dump;
 mod entries;
@@ -10,14 +8,14 @@ mod reading;
 mod replies;
 
 use calls::making;
-use ledger::Ledger;
+use replies::Reply;
 use script::calls::{DUMP, NEW, QUESTIONS};
-use script::{Call, Line, Reader, Writer};
-use std::io::Write;
+use script::{Line, Reader, Writer};
 use types::Shard;
 
 // Line by line to the end of the script, or to a line that is malformed or names a call that is not there. `repeat` says how often the next
-// call is made, where one waits for its call. No script has 2^64 lines.
+// call is made, where one waits for its call. No script has 2^64 lines. The calls are made here, since a function around them would copy the
+// ledger once more a line.
 fn main(rt: HostRuntime) {
     let mut reader = Reader::new(rt.stdin());
     let mut writer = Writer::new(rt.stdout());
@@ -29,54 +27,29 @@ fn main(rt: HostRuntime) {
         let Some(found) = reader.next_line() else {
             break;
         };
-        match script::parse(found, &mut numbers) {
-            Line::Skip => {}
-            Line::Repeat(times) if repeat.is_none() => repeat = Some(times),
-            Line::Call(call) => {
-                let times = repeat.take().unwrap_or(1);
-                let words = &numbers[..call.count];
-                let list = &mut lent[..call.lent];
-                make(&mut ledger, &mut writer, call, words, list, times);
+        let call = match script::parse(found, &mut numbers) {
+            Line::Skip => continue,
+            Line::Repeat(times) if repeat.is_none() => {
+                repeat = Some(times);
+                continue;
             }
-            _ => {
-                replies::stop(&mut writer, at);
-                return;
-            }
-        }
+            Line::Call(call) => call,
+            _ => return replies::stop(&mut writer, at),
+        };
+        let code = call.code;
+        let times = repeat.take().unwrap_or(1);
+        let words = &numbers[..call.count];
+        let list = &mut lent[..call.lent];
+        let reply = if code == NEW {
+            changing::renew(&mut ledger, words, times)
+        } else if code < QUESTIONS {
+            changing::apply(&mut ledger, code, words, list, times)
+        } else if code < DUMP {
+            reading::ask(&ledger, code, words, list, times)
+        } else {
+            Reply::default()
+        };
+        replies::put_reply(&mut writer, call, reply, &ledger, list);
     }
     writer.flush();
-}
-
-// Makes a call so many times on the ledger in hand, and writes its line of answer.
-fn make<W: Write>(
-    ledger: &mut Ledger,
-    writer: &mut Writer<W>,
-    call: Call,
-    words: &[u64],
-    list: &mut [u64],
-    times: u64,
-)
-    requires { Held ledger.old }
-    ensures { Held ledger.new }
-{
-    let code = call.code;
-    let mut refused = 0;
-    let mut answers = [0; 3];
-    if code == NEW {
-        let done = changing::renew(words, times);
-        (refused, answers) = (done.refused, done.answers);
-        *ledger = done.ledger;
-    } else if code < QUESTIONS {
-        let done = changing::apply(*ledger, code, words, list, times);
-        (refused, answers) = (done.refused, done.answers);
-        *ledger = done.ledger;
-    } else if code < DUMP {
-        let answer = reading::ask(*ledger, code, words, list, times);
-        (refused, answers[0]) = (answer.refused, answer.answer);
-    }
-    replies::put_answers(writer, code, refused, answers);
-    if code == DUMP {
-        dump::put_ledger(writer, ledger);
-    }
-    replies::put_list(writer, call, list);
 }

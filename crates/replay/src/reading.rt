@@ -3,6 +3,7 @@ ghost use Rattle.std.specs.Prelude.{◌<◌};
 ghost use Rattle.ledger.specs.Contents.{Held};
 ghost use Rattle.replay.specs.Lines.{Asked};
 
+use crate::replies::Reply;
 use dispatch::reading;
 use ledger::Ledger;
 use readings::Answer;
@@ -10,9 +11,9 @@ use script::FILL;
 use script::calls::PRUNE;
 
 // The reading of a code as often as is said, and once at least: each time of the same ledger and on the list filled anew.
-pub fn ask(ledger: Ledger, code: usize, words: &[u64], list: &mut [u64], times: u64) -> Answer
-    requires { Held ledger × (14 < code) }
-    ensures { Asked code words.now ledger list.old list.new result }
+pub fn ask(ledger: &Ledger, code: usize, words: &[u64], list: &mut [u64], times: u64) -> Reply
+    requires { Held ledger.now × (14 < code) }
+    ensures { Asked code words.now ledger.now list.old list.new result }
 {
     let kind = (code - PRUNE) as u64;
     let mut answer = Answer {
@@ -21,7 +22,10 @@ pub fn ask(ledger: Ledger, code: usize, words: &[u64], list: &mut [u64], times: 
     };
     for turn in 0..times.max(1) {
         list.fill(FILL);
-        answer = reading::ask(ledger, kind, words, list);
+        answer = reading::ask(*ledger, kind, words, list);
     }
-    answer
+    Reply {
+        refused: answer.refused,
+        answers: [answer.answer, 0, 0],
+    }
 }

@@ -1,8 +1,18 @@
 // The lines that are written: the answer to a call, and the one that stops a script.
 ghost use Rattle.std.specs.Prelude.{◌≤◌};
+ghost use Rattle.ledger.specs.Contents.{Held};
 
+use crate::dump;
+use ledger::Ledger;
 use script::{Call, Writer, calls as codes};
 use std::io::Write;
+
+// What a call says: 0 or its refusal, and its answers, 0 where it has none.
+#[derive(Clone, Copy, Default)]
+pub struct Reply {
+    pub refused: u64,
+    pub answers: [u64; 3],
+}
 
 // How many answers a call has.
 fn answers_of(code: usize) -> usize
@@ -16,16 +26,33 @@ fn answers_of(code: usize) -> usize
     }
 }
 
+// A call's line: what it said, all that is held where it is a `dump`, and the list that it was lent.
+pub fn put_reply<W: Write>(
+    writer: &mut Writer<W>,
+    call: Call,
+    reply: Reply,
+    ledger: &Ledger,
+    list: &[u64],
+)
+    requires { Held ledger.now }
+{
+    put_answers(writer, call.code, reply);
+    if call.code == codes::DUMP {
+        dump::put_ledger(writer, ledger);
+    }
+    put_list(writer, call, list);
+}
+
 // status { " " answer }; after a refusal no answer. What `dump` says follows by itself.
-pub fn put_answers<W: Write>(writer: &mut Writer<W>, code: usize, refused: u64, answers: [u64; 3]) {
-    writer.put_number(refused);
-    if refused == 0 {
-        writer.put_words(&answers[..answers_of(code)]);
+fn put_answers<W: Write>(writer: &mut Writer<W>, code: usize, reply: Reply) {
+    writer.put_number(reply.refused);
+    if reply.refused == 0 {
+        writer.put_words(&reply.answers[..answers_of(code)]);
     }
 }
 
 // [ " / " words ], the lent list as it stands after a call that takes one, and the line's end.
-pub fn put_list<W: Write>(writer: &mut Writer<W>, call: Call, list: &[u64]) {
+fn put_list<W: Write>(writer: &mut Writer<W>, call: Call, list: &[u64]) {
     if codes::takes_list(call.code) {
         writer.put_lent(list);
     }
