@@ -34,7 +34,7 @@ pub fn is_digit(byte: u8) -> bool
 }
 
 // Puts n's decimal digits, without leading zeros, at the end of out, which has 20 bytes, and answers where
-// they begin.
+// they begin. The project has its own definition of them (`spelled`), which std's `Display` does not speak of.
 pub fn spell(n: u64, out: &mut [u8]) -> usize
     requires { 20 ≡ length out.old }
     ensures { (result < 20) × (drop result out.new ≡ spelled 20 n) }

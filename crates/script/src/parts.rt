@@ -3,11 +3,12 @@
 // line = name { " " number } [ " lent " number ]. Zeros may lead a number. A lent count is 0 to 4,096, comes last
 // and is not among the 2,048 numbers. `repeat` has one number from 1 and no lent. To a call that
 // takes no list nothing is lent.
-ghost use Rattle.std.specs.Prelude.{◌≡◌, ◌≤◌, ◌<◌, IsTrue, IfSome, false, length, take, drop};
+ghost use Rattle.std.specs.Prelude.{◌≡◌, ◌≤◌, ◌<◌, IsTrue, IfSome, MatchResult, false, length, take, drop};
 ghost use Rattle.script.specs.Texts.{same_text};
 ghost use Rattle.script.specs.Calls.{codes, takes_list, Takes};
 ghost use Rattle.script.specs.Grammar.{behind, tail_of, numbers_of, lent_text, lent_of, lent_number, is_remark, Small};
 ghost use Rattle.script.specs.Parse.{Says, Fits};
+ghost use Rattle.script.specs.declared.line.Line.{Line};
 
 use crate::calls::REPEAT;
 use crate::line::{Call, Line};
@@ -22,7 +23,9 @@ struct Tail {
 }
 
 // Takes the line that `next_line` found apart; its numbers go to the front of numbers.
-pub fn parse(found: Result<&[u8], TooLong>, numbers: &mut [u64; 2048]) -> Line {
+pub fn parse(found: Result<&[u8], TooLong>, numbers: &mut [u64; 2048]) -> Line
+    ensures { MatchResult found.entry (λ line. Says line.now numbers.new result) (λ _. result ≡ Line.Malformed) }
+{
     match found {
         Ok(line) => parse_line(line, numbers),
         Err(TooLong) => Line::Malformed,
@@ -105,7 +108,8 @@ fn call(code: usize, count: usize, lent: usize) -> Call
     }
 }
 
-// What stands from `from` on, where the line ends or a space stands: numbers, and the lent count.
+// What stands from `from` on, where the line ends or a space stands: numbers, and the lent count. The place goes on by tokens and not by
+// bytes; `split` gives the tokens, but its iterator, handed on for the lent count, asks for longer clauses than a place does.
 fn tail_of(line: &[u8], from: usize, numbers: &mut [u64]) -> Option<Tail>
     requires { (from ≤ length line.now) × (2048 ≡ length numbers.old) }
     ensures count_bound { IfSome result Small }
