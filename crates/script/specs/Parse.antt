@@ -1,8 +1,9 @@
 -- What a line taken apart keeps to.
 -- Assumes nothing.
-use Rattle.std.specs.Prelude.{ℕ, ◌<◌, ◌≡◌, false, true, List, take, drop, Some}
-use Rattle.script.specs.Calls.{code_of}
-use Rattle.script.specs.Grammar.{word_length, behind, numbers_of, is_remark}
+use Rattle.std.specs.Prelude.{ℕ, ◌<◌, ◌≡◌, cond, false, true, List, take, drop, Some, IfSome}
+use Rattle.std.specs.Option.{unwrap_or}
+use Rattle.script.specs.Calls.{code_of, takes_list}
+use Rattle.script.specs.Grammar.{word_length, behind, tail_of, numbers_of, is_remark}
 use Rattle.script.specs.declared.parts.Tail.{Tail}
 use Rattle.script.specs.declared.line.Line.{Line}
 use Rattle.script.specs.declared.line.Line.TheVariants.{Skip, Repeat, Call, Malformed}
@@ -11,10 +12,11 @@ use Rattle.script.specs.declared.line.Line.TheVariants.{Skip, Repeat, Call, Malf
 abbrev pub Fits : ℕ → Tail → Line → Type 0
 Fits code tail Skip = ⊥
 Fits code tail (Repeat times) = (code ≡ 0) × (0 < times)
-Fits code tail (Call call) = (call.code ≡ code) × (call.count ≡ tail.count)
+Fits code tail (Call call) = (call.code ≡ code) × (call.count ≡ tail.count) × (call.lent ≡ cond (takes_list code) (unwrap_or tail.lent 0) 0)
 Fits code tail Malformed = ⊥
 
--- what a line is taken for: skipped just where it is empty or a remark; a call by its name, with the numbers that stand behind it in front of `numbers`
+-- what a line is taken for: skipped just where it is empty or a remark; a call by its name, with the numbers that stand behind it in front of `numbers`, and the
+-- lent count where it takes a list
 abbrev pub Says : List ℕ → List ℕ → Line → Type 0
 Says line numbers Skip = is_remark line ≡ true
 Says line numbers (Repeat times) = (is_remark line ≡ false) × (0 < times)
@@ -22,4 +24,5 @@ Says line numbers (Call call) =
     (is_remark line ≡ false)
     × (code_of (take (word_length line) line) ≡ Some call.code)
     × (take call.count numbers ≡ numbers_of (behind (drop (word_length line) line)))
+    × IfSome (tail_of 0 (behind (drop (word_length line) line))) (λ tail. call.lent ≡ cond (takes_list call.code) (unwrap_or tail.lent 0) 0)
 Says line numbers Malformed = is_remark line ≡ false

@@ -3,7 +3,7 @@
 // line = name { " " number } [ " lent " number ]. Zeros may lead a number. A lent count is 0 to 4,096, comes last
 // and is not among the 2,048 numbers. `repeat` has one number from 1 and no lent. To a call that
 // takes no list nothing is lent.
-ghost use Rattle.std.specs.Prelude.{◌≡◌, ◌≤◌, ◌<◌, IsTrue, IfSome, MatchResult, false, length, take, drop};
+ghost use Rattle.std.specs.Prelude.{◌≡◌, ◌≤◌, ◌<◌, IsTrue, IfSome, MatchResult, cond, false, length, take, drop};
 ghost use Rattle.script.specs.Texts.{same_text};
 ghost use Rattle.script.specs.Calls.{codes, takes_list, Takes};
 ghost use Rattle.script.specs.Grammar.{behind, tail_of, numbers_of, lent_text, lent_of, lent_number, is_remark, Small};
@@ -98,7 +98,7 @@ fn takes(code: usize, count: usize) -> bool
 // A call, lent nothing where it takes no list.
 fn call(code: usize, count: usize, lent: usize) -> Call
     requires { (0 < code) × (code < codes) × (count ≤ 2048) × (lent ≤ 4096) × Takes code count }
-    ensures { (result.code ≡ code) × (result.count ≡ count) }
+    ensures { (result.code ≡ code) × (result.count ≡ count) × (result.lent ≡ cond (takes_list code) lent 0) }
 {
     let words = if calls::takes_list(code) { lent } else { 0 };
     Call {
