@@ -66,7 +66,7 @@ fn call_in(line: &[u8], numbers: &mut [u64; 2048]) -> Option<Line>
 // A call with what stands behind its name, where the two fit.
 fn checked(code: usize, tail: Tail, first: u64) -> Option<Line>
     requires { (code < codes) × Small tail }
-    ensures { IfSome result (Fits code tail) }
+    ensures { IfSome result (Fits code tail first) }
 {
     if !takes(code, tail.count) {
         return None;
@@ -79,7 +79,7 @@ fn checked(code: usize, tail: Tail, first: u64) -> Option<Line>
 
 // A line that has the next call made so often; it lends nothing.
 fn repeat(tail: Tail, first: u64) -> Option<Line>
-    ensures { IfSome result (Fits REPEAT tail) }
+    ensures { IfSome result (Fits REPEAT tail first) }
 {
     if tail.lent.is_some() || first == 0 {
         return None;
