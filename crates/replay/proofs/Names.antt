@@ -5,10 +5,9 @@ use mathlib.Core.Path.{refl}
 use mathlib.Core.List.{List}
 use Rattle.dispatch.specs.Changing.{call_of}
 use Rattle.dispatch.specs.Reading.{lookup_of, reading_of}
-use Rattle.script.specs.Texts.{same_text}
-use Rattle.script.specs.Calls.{named, code_of}
+use Rattle.script.specs.Calls.{code_of}
 use Rattle.replay.specs.Names.{Named}
 
 pub names : (ws : List ℕ) (room : ℕ) → Named ws room
-unfolding call_of lookup_of reading_of same_text named code_of
+unfolding call_of lookup_of reading_of code_of
 names ws room = record { calls = refl; readings = refl }

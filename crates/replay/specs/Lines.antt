@@ -1,5 +1,5 @@
 -- What a line of a script does: the call that its code, numbers and lent list name, as often as it is made.
-use Rattle.std.specs.Prelude.{ℕ, zero, suc, ◌-◌, ◌≡◌, List, [], ◌∷◌, map, get_or, take, drop}
+use Rattle.std.specs.Prelude.{ℕ, zero, suc, ◌-◌, List, [], map, get_or, length}
 use Rattle.rules.specs.Words.{word}
 use Rattle.rules.specs.Calls.{Call, making}
 use Rattle.rules.specs.Readings.{Reading, read}
@@ -11,7 +11,7 @@ use Rattle.readings.specs.declared.Answer.{Answer}
 use Rattle.readings.specs.Reads.{Reads}
 use Rattle.dispatch.specs.Changing.{call_of, Turned}
 use Rattle.dispatch.specs.Reading.{reading_of}
-use Rattle.script.specs.declared.parts.Parsed.{Parsed}
+use Rattle.replay.specs.declared.replies.Reply.{Reply}
 
 -- once, unless a `repeat` says how often
 abbrev pub turns_of : ℕ → ℕ
@@ -25,27 +25,26 @@ fill_word = 11936128518282651045
 abbrev pub filled : List ℕ → List ℕ
 filled list = map (λ w. fill_word) list
 
--- by the codes of script calls: 4 to 16 the changing calls, from 17 on the readings
-abbrev pub call_in : Parsed → List ℕ → Call
-call_in line numbers = call_of (line.code - 3) (take line.count numbers) line.lent
+-- by the codes of script calls: 2 to 14 the changing calls, from 15 on the readings
+abbrev pub call_in : ℕ → List ℕ → ℕ → Call
+call_in code words room = call_of (code - 1) words room
 
-abbrev pub reading_in : Parsed → List ℕ → Reading
-reading_in line numbers = reading_of (line.code - 16) (take line.count numbers) line.lent
+abbrev pub reading_in : ℕ → List ℕ → ℕ → Reading
+reading_in code words room = reading_of (code - 14) words room
 
--- the four numbers that are written of a call: its refusal and its answers
-abbrev pub done_by : List ℕ → Ledger → Done
-done_by reply l = record { refused = get_or reply 0 0; answers = get_or reply 1 0 ∷ get_or reply 2 0 ∷ get_or reply 3 0 ∷ []; ledger = l }
+-- what a call says, with the ledger after it, and what a reading says
+abbrev pub done_by : Reply → Ledger → Done
+done_by reply r = record { refused = reply.refused; answers = reply.answers; ledger = r }
 
-abbrev pub answer_by : List ℕ → Answer
-answer_by reply = record { refused = get_or reply 0 0; answer = get_or reply 1 0 }
+abbrev pub answer_by : Reply → Answer
+answer_by reply = record { refused = reply.refused; answer = get_or reply.answers 0 0 }
 
-abbrev pub Renewed : List ℕ → List ℕ → Ledger → Type 0
+abbrev pub Renewed : List ℕ → Reply → Ledger → Type 0
 Renewed ws reply r = Meets (making (word 0 ws) (word 1 ws) (word 2 ws) (word 3 ws)) [] [] (done_by reply r)
 
-pub record Changed (line : Parsed) (numbers : List ℕ) (times : ℕ) (l : Ledger) (was is reply : List ℕ) (r : Ledger) : Type 0 where
-  pub turned : Turned (turns_of times) fill_word (call_in line numbers) l (filled (take line.lent was)) (take line.lent is) (done_by reply r)
-  pub beyond : drop line.lent is ≡ drop line.lent was
+-- of a line's code, numbers and lent list: what is said, the list after it, and the ledger after it
+abbrev pub Changed : ℕ → List ℕ → ℕ → Ledger → List ℕ → List ℕ → Reply → Ledger → Type 0
+Changed code words times l was now reply r = Turned (turns_of times) fill_word (call_in code words (length was)) l (filled was) now (done_by reply r)
 
-pub record Asked (line : Parsed) (numbers : List ℕ) (l : Ledger) (was is reply : List ℕ) : Type 0 where
-  pub reads : Reads (read (reading_in line numbers) (contents l)) (filled (take line.lent was)) (take line.lent is) (answer_by reply)
-  pub beyond : drop line.lent is ≡ drop line.lent was
+abbrev pub Asked : ℕ → List ℕ → Ledger → List ℕ → List ℕ → Reply → Type 0
+Asked code words l was now reply = Reads (read (reading_in code words (length was)) (contents l)) (filled was) now (answer_by reply)

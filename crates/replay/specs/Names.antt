@@ -1,11 +1,11 @@
 -- Which call and which reading each name of a script makes: from the script's table of names to the rules.
-use Rattle.std.specs.Prelude.{ℕ, ◌-◌, ◌≡◌, List, [], ◌∷◌, map, take, drop}
+use Rattle.std.specs.Prelude.{ℕ, ◌≡◌, List, [], ◌∷◌, map, take, drop, Some}
+use Rattle.std.specs.Option.{option_map}
 use Rattle.rules.specs.Words.{word}
 use Rattle.rules.specs.Calls as rules
 use Rattle.rules.specs.Readings as readings
-use Rattle.dispatch.specs.Changing.{call_of}
-use Rattle.dispatch.specs.Reading.{reading_of}
 use Rattle.script.specs.Calls.{names, code_of}
+use Rattle.replay.specs.Lines.{call_in, reading_in}
 
 -- register_committed, record_absence, certify, record_abandonment, settled, returned, closes, fated, release_resolved, forget,
 -- record_terminal, stamp_terminal, prune: the script's names after `repeat` and `new`
@@ -20,8 +20,9 @@ reading_names = take 17 (drop 15 names)
 -- what each name makes of a line's numbers and the length of its list
 pub record Named (ws : List ℕ) (room : ℕ) : Type 0 where
   pub calls :
-      map (λ name. call_of (code_of name - 3) ws room) changing_names ≡
-      rules.admission ws
+      map (λ name. option_map (λ code. call_in code ws room) (code_of name)) changing_names ≡
+      map Some
+      (rules.admission ws
       ∷ rules.absence (word 0 ws) (word 1 ws) (word 2 ws)
       ∷ rules.certify (word 0 ws) (word 1 ws)
       ∷ rules.abandonment ws
@@ -34,10 +35,11 @@ pub record Named (ws : List ℕ) (room : ℕ) : Type 0 where
       ∷ rules.terminal (word 0 ws) (word 1 ws) (word 2 ws) (word 3 ws)
       ∷ rules.stamp (word 0 ws) (word 1 ws)
       ∷ rules.prune (word 0 ws) room
-      ∷ []
+      ∷ [])
   pub readings :
-      map (λ name. reading_of (code_of name - 16) ws room) reading_names ≡
-      readings.ask_questions room
+      map (λ name. option_map (λ code. reading_in code ws room) (code_of name)) reading_names ≡
+      map Some
+      (readings.ask_questions room
       ∷ readings.open_at (word 0 ws) (word 1 ws) (word 2 ws) (word 3 ws) (word 4 ws) (word 5 ws)
       ∷ readings.answers (word 0 ws) (word 1 ws) (word 2 ws) (word 3 ws) (word 4 ws) (word 5 ws) (word 6 ws)
       ∷ readings.list_past_deadline (word 0 ws) room
@@ -54,4 +56,4 @@ pub record Named (ws : List ℕ) (room : ℕ) : Type 0 where
       ∷ readings.issued_by (word 0 ws) (word 1 ws)
       ∷ readings.local
       ∷ readings.rebuilt
-      ∷ []
+      ∷ [])

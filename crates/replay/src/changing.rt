@@ -1,80 +1,49 @@
 // Making, and the changing calls of a script.
-ghost use Rattle.std.specs.Prelude.{◌<◌, ◌≡◌, [], ◌∷◌, length};
+ghost use Rattle.std.specs.Prelude.{◌<◌};
 ghost use Rattle.ledger.specs.Contents.{Held};
-ghost use Rattle.script.specs.Parse.{Sound};
 ghost use Rattle.replay.specs.Lines.{Renewed, Changed};
 
-use crate::turns::turns_of;
+use crate::replies::Reply;
 use calls::making;
-use dispatch::{changing, fill};
+use dispatch::changing;
 use ledger::Ledger;
+use lists::slices::word_at;
+use script::FILL;
 use script::calls::NEW;
-use script::{FILL, Parsed};
 use types::Shard;
 
-// What a call said, put down to be written: its number and its three answers.
-fn put_down(refused: u64, a: u64, b: u64, c: u64, reply: &mut [u64; 4])
-    requires { length reply.old ≡ 4 }
-    ensures { reply.new ≡ refused ∷ a ∷ b ∷ c ∷ [] }
+// A making, as often as is said, and once at least.
+pub fn renew(ledger: &mut Ledger, words: &[u64], times: u64) -> Reply
+    ensures { Renewed words.now result ledger.new }
 {
-    reply[0] = refused;
-    reply[1] = a;
-    reply[2] = b;
-    reply[3] = c;
-}
-
-// A making, as often as the line says.
-pub fn renew(numbers: &[u64; 2048], times: u64, reply: &mut [u64; 4]) -> Ledger
-    requires { length reply.old ≡ 4 }
-    ensures { Renewed numbers.now reply.new result }
-{
-    let local = Shard(numbers[0]);
-    let validity = numbers[1];
-    let core_span = numbers[2];
-    let leg_span = numbers[3];
+    let local = Shard(word_at(words, 0));
+    let validity = word_at(words, 1);
+    let core_span = word_at(words, 2);
+    let leg_span = word_at(words, 3);
     let mut done = making::new(local, validity, core_span, leg_span);
-    let mut left = turns_of(times);
-    while 1 < left {
-        left -= 1;
+    for _turn in 1..times {
         done = making::new(local, validity, core_span, leg_span);
     }
-    put_down(
-        done.refused,
-        done.answers[0],
-        done.answers[1],
-        done.answers[2],
-        reply,
-    );
-    done.ledger
+    let answers = done.answers;
+    *ledger = done.ledger;
+    Reply {
+        refused: done.refused,
+        answers,
+    }
 }
 
-// The line's call as often as it says, each time on the ledger that the last handed back and on the list filled anew.
-pub fn apply(
-    ledger: Ledger,
-    line: Parsed,
-    numbers: &[u64; 2048],
-    lent: &mut [u64],
-    times: u64,
-    reply: &mut [u64; 4],
-) -> Ledger
-    requires held { Held ledger × Sound line × (3 < line.code) }
-    requires value { (4096 ≡ length lent.old) × (length reply.old ≡ 4) }
-    ensures { Changed line numbers.now times ledger lent.old lent.new reply.new result }
+// The call of a code as often as is said, and once at least: each time on the ledger that the last handed back and on the list filled anew.
+pub fn apply(ledger: &mut Ledger, code: usize, words: &[u64], list: &mut [u64], times: u64) -> Reply
+    requires { Held ledger.old × (1 < code) }
+    ensures { Changed code words.now times ledger.old list.old list.new result ledger.new }
 {
-    let kind = (line.code - NEW) as u64;
-    let count = line.count;
-    let all = &numbers[..];
-    let words = &all[..count];
-    let n = line.lent;
-    let list = &mut lent[..n];
-    fill(list, FILL);
-    let done = changing::apply(ledger, kind, words, list, turns_of(times), FILL);
-    put_down(
-        done.refused,
-        done.answers[0],
-        done.answers[1],
-        done.answers[2],
-        reply,
-    );
-    done.ledger
+    let kind = (code - NEW) as u64;
+    list.fill(FILL);
+    let done = changing::apply(*ledger, kind, words, list, times.max(1), FILL);
+    let answers = done.answers;
+    *ledger = done.ledger;
+    Reply {
+        refused: done.refused,
+        answers,
+    }
 }

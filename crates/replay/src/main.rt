@@ -6,55 +6,50 @@ mod dump;
 mod entries;
 mod reading;
 mod replies;
-mod turns;
 
 use calls::making;
+use replies::Reply;
 use script::calls::{DUMP, NEW, QUESTIONS};
+use script::{Line, Reader, Writer};
 use types::Shard;
 
-// Line by line to the end of the script, or to a line that is malformed or names a call that is not there. `times` is 0 unless
-// a `repeat` waits for its call. No script has 2^64 lines.
+// Line by line to the end of the script, or to a line that is malformed or names a call that is not there. `repeat` says how often the next
+// call is made, where one waits for its call. No script has 2^64 lines. The calls are made here, since a function around them would copy the
+// ledger twice more a line.
 fn main(rt: HostRuntime) {
-    let (mut stdin, mut stdout) = (rt.stdin(), rt.stdout());
-    let mut input = [0u8; 65536];
-    let mut output = [0u8; 65536];
-    let mut numbers = [0u64; 2048];
-    let mut lent = [0u64; 4096];
+    let mut reader = Reader::new(rt.stdin());
+    let mut writer = Writer::new(rt.stdout());
+    let mut numbers = [0; 2048];
+    let mut lent = [0; 4096];
     let mut ledger = making::new(Shard(0), 0, 0, 0).ledger;
-    let mut lines = script::begin();
-    let mut out = script::no_text();
-    let mut times: u64 = 0;
-    let mut at: u64 = 0;
-    while at < 0xffff_ffff_ffff_ffff {
-        lines = script::next_line(&mut stdin, &mut input, lines);
-        if lines.found == script::AT_END {
+    let mut repeat = None;
+    for at in 1..=u64::MAX {
+        let Some(found) = reader.next_line() else {
             break;
-        }
-        at += 1;
-        let line = script::parse(&input, lines, &mut numbers);
-        let code = line.code;
-        if turns::is_no_call(code, times) {
-            times = turns::waiting(code, times, numbers[0]);
-            continue;
-        }
-        if code < NEW {
-            replies::stop(&mut stdout, &mut output, out, at);
-            return;
-        }
-        let mut reply = [0u64; 4];
-        if code == NEW {
-            ledger = changing::renew(&numbers, times, &mut reply);
+        };
+        let call = match script::parse(found, &mut numbers) {
+            Line::Skip => continue,
+            Line::Repeat(times) if repeat.is_none() => {
+                repeat = Some(times);
+                continue;
+            }
+            Line::Call(call) => call,
+            _ => return replies::stop(&mut writer, at),
+        };
+        let code = call.code;
+        let times = repeat.take().unwrap_or(1);
+        let words = &numbers[..call.count];
+        let list = &mut lent[..call.lent];
+        let reply = if code == NEW {
+            changing::renew(&mut ledger, words, times)
         } else if code < QUESTIONS {
-            ledger = changing::apply(ledger, line, &numbers, &mut lent, times, &mut reply);
+            changing::apply(&mut ledger, code, words, list, times)
         } else if code < DUMP {
-            reading::ask(ledger, line, &numbers, &mut lent, times, &mut reply);
-        }
-        out = replies::put_answers(&mut stdout, &mut output, out, code, &reply);
-        if code == DUMP {
-            out = dump::put_ledger(&mut stdout, &mut output, out, ledger);
-        }
-        out = replies::put_list(&mut stdout, &mut output, out, line, &lent);
-        times = 0;
+            reading::ask(&ledger, code, words, list, times)
+        } else {
+            Reply::default()
+        };
+        replies::put_reply(&mut writer, call, reply, &ledger, list);
     }
-    script::flush(&mut stdout, &output, out);
+    writer.flush();
 }

@@ -1,40 +1,31 @@
 // The readings of a script.
-ghost use Rattle.std.specs.Prelude.{◌<◌, ◌≡◌, length};
+ghost use Rattle.std.specs.Prelude.{◌<◌};
 ghost use Rattle.ledger.specs.Contents.{Held};
-ghost use Rattle.script.specs.Parse.{Sound};
 ghost use Rattle.replay.specs.Lines.{Asked};
 
-use crate::turns::turns_of;
-use dispatch::{fill, reading};
+use crate::replies::Reply;
+use dispatch::reading;
 use ledger::Ledger;
+use readings::Answer;
+use script::FILL;
 use script::calls::PRUNE;
-use script::{FILL, Parsed};
 
-// The line's reading as often as it says, each time of the same ledger and on the list filled anew.
-pub fn ask(
-    ledger: Ledger,
-    line: Parsed,
-    numbers: &[u64; 2048],
-    lent: &mut [u64],
-    times: u64,
-    reply: &mut [u64; 4],
-)
-    requires held { Held ledger × Sound line × (16 < line.code) }
-    requires value { (4096 ≡ length lent.old) × (length reply.old ≡ 4) }
-    ensures { Asked line numbers.now ledger lent.old lent.new reply.new }
+// The reading of a code as often as is said, and once at least: each time of the same ledger and on the list filled anew.
+pub fn ask(ledger: &Ledger, code: usize, words: &[u64], list: &mut [u64], times: u64) -> Reply
+    requires { Held ledger.now × (14 < code) }
+    ensures { Asked code words.now ledger.now list.old list.new result }
 {
-    let kind = (line.code - PRUNE) as u64;
-    let count = line.count;
-    let all = &numbers[..];
-    let words = &all[..count];
-    let n = line.lent;
-    let list = &mut lent[..n];
-    let mut left = turns_of(times);
-    while 0 < left {
-        left -= 1;
-        fill(list, FILL);
-        let answer = reading::ask(ledger, kind, words, list);
-        reply[0] = answer.refused;
-        reply[1] = answer.answer;
+    let kind = (code - PRUNE) as u64;
+    let mut answer = Answer {
+        refused: 0,
+        answer: 0,
+    };
+    for turn in 0..times.max(1) {
+        list.fill(FILL);
+        answer = reading::ask(*ledger, kind, words, list);
+    }
+    Reply {
+        refused: answer.refused,
+        answers: [answer.answer, 0, 0],
     }
 }

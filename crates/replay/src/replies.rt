@@ -1,12 +1,23 @@
 // The lines that are written: the answer to a call, and the one that stops a script.
-ghost use Rattle.std.specs.Prelude.{◌≡◌, ◌≤◌, length};
-ghost use Rattle.script.specs.Parse.{Sound};
+ghost use Rattle.std.specs.Prelude.{◌≤◌};
+ghost use Rattle.ledger.specs.Contents.{Held};
 
-use script::{Out, Parsed, calls as codes};
+use crate::dump;
+use ledger::Ledger;
+use script::{Call, Writer, calls as codes};
 use std::io::Write;
 
+// What a call says: 0 or its refusal, and its answers, 0 where it has none.
+#[derive(Clone, Copy, Default)]
+pub struct Reply {
+    pub refused: u64,
+    pub answers: [u64; 3],
+}
+
 // How many answers a call has.
-fn answers_of(code: u8) -> u8 {
+fn answers_of(code: usize) -> usize
+    ensures { result ≤ 3 }
+{
     match code {
         codes::NEW | codes::CERTIFY | codes::SETTLED | codes::RETURNED => 0,
         codes::RECORD_TERMINAL | codes::STAMP_TERMINAL | codes::DUMP => 0,
@@ -15,64 +26,43 @@ fn answers_of(code: u8) -> u8 {
     }
 }
 
-// status { " " answer }; after a refusal no answer. What `dump` says follows by itself.
-pub fn put_answers<W: Write>(
-    output: &mut W,
-    buf: &mut [u8; 65536],
-    out: Out,
-    code: u8,
-    reply: &[u64; 4],
-) -> Out
-    requires { out.at ≤ 65536 }
-    ensures { result.at ≤ 65536 }
+// A call's line: what it said, all that is held where it is a `dump`, and the list that it was lent.
+pub fn put_reply<W: Write>(
+    writer: &mut Writer<W>,
+    call: Call,
+    reply: Reply,
+    ledger: &Ledger,
+    list: &[u64],
+)
+    requires { Held ledger.now }
 {
-    let put = script::put_number(output, buf, out, reply[0]);
-    if reply[0] > 0 {
-        return put;
+    put_answers(writer, call.code, reply);
+    if call.code == codes::DUMP {
+        dump::put_ledger(writer, ledger);
     }
-    match answers_of(code) {
-        0 => put,
-        1 => put_word(output, buf, put, reply[1]),
-        _ => {
-            let more = put_word(output, buf, put, reply[1]);
-            put_word(output, buf, more, reply[2])
-        }
+    put_list(writer, call, list);
+}
+
+// status { " " answer }; after a refusal no answer. What `dump` says follows by itself.
+fn put_answers<W: Write>(writer: &mut Writer<W>, code: usize, reply: Reply) {
+    writer.put_number(reply.refused);
+    if reply.refused == 0 {
+        writer.put_words(&reply.answers[..answers_of(code)]);
     }
 }
 
 // [ " / " words ], the lent list as it stands after a call that takes one, and the line's end.
-pub fn put_list<W: Write>(
-    output: &mut W,
-    buf: &mut [u8; 65536],
-    out: Out,
-    line: Parsed,
-    lent: &[u64],
-) -> Out
-    requires { (out.at ≤ 65536) × Sound line × (4096 ≡ length lent.now) }
-    ensures { result.at ≤ 65536 }
-{
-    if !codes::takes_list(line.code) {
-        return script::put_byte(output, buf, out, b'\n');
+fn put_list<W: Write>(writer: &mut Writer<W>, call: Call, list: &[u64]) {
+    if codes::takes_list(call.code) {
+        writer.put_lent(list);
     }
-    let n = line.lent;
-    let put = script::put_lent(output, buf, out, &lent[0..n]);
-    script::put_byte(output, buf, put, b'\n')
-}
-
-pub fn put_word<W: Write>(output: &mut W, buf: &mut [u8; 65536], out: Out, word: u64) -> Out
-    requires { out.at ≤ 65536 }
-    ensures { result.at ≤ 65536 }
-{
-    let put = script::put_byte(output, buf, out, b' ');
-    script::put_number(output, buf, put, word)
+    writer.put_byte(b'\n');
 }
 
 // Writes all that waits, and `? N`, N being the line's number.
-pub fn stop<W: Write>(output: &mut W, buf: &mut [u8; 65536], out: Out, at: u64)
-    requires { out.at ≤ 65536 }
-{
-    let mut put = script::put_byte(output, buf, out, b'?');
-    put = put_word(output, buf, put, at);
-    put = script::put_byte(output, buf, put, b'\n');
-    script::flush(output, buf, put);
+pub fn stop<W: Write>(writer: &mut Writer<W>, at: u64) {
+    writer.put_byte(b'?');
+    writer.put_word(at);
+    writer.put_byte(b'\n');
+    writer.flush();
 }

@@ -3,14 +3,16 @@
 use Prim.Native.Nat.{ℕ, zero, suc, ◌+◌, ◌*◌, ◌-◌, ◌/◌, ◌%◌, ◌^◌, ◌≤◌, ◌<◌}
 use mathlib.Core.Path.{◌≡◌, refl, sym, ap, ◌∙◌}
 use mathlib.Core.Bool.{Bool, true, false, cond}
-use mathlib.Core.List.{List, [], ◌∷◌, ◌++◌, append_assoc, append-nil}
+use mathlib.Core.List.{List, [], ◌∷◌, ◌++◌, append_assoc}
 use native.Mathlib.Omega.{arith}
 use native.Mathlib.Nat.{div-lt_iff_lt-mul, pow-suc}
 use lib.Dec.{ltb}
 use lib.ListN.{length, drop, get_or, set, drop_of_length-le}
 use lib.Seq.{drop-cons}
-use borrow.Author.Tests.{lt-leb, le-leb, le-ltb, lt-ltb, ltb-true, ltb-false}
-use Rattle.script.specs.declared.numbers.Number.TheVariants.{Is, Not}
+use borrow.Author.Tests.{le-leb, le-ltb, lt-ltb, ltb-true, ltb-false}
+use Rattle.std.specs.Prelude.{Option, Some, None}
+use Rattle.std.specs.Option.{SomeIff}
+use Rattle.std.proofs.lemmas.Bool.Decides.{nat_tests}
 use Rattle.script.specs.Decimal.{is_digit, all_digits, worth, is_when, valued, number_of, spelled}
 
 -- more digits never make a number smaller
@@ -19,25 +21,32 @@ unfolding worth
 grows v [] = omega arith
 grows v (b ∷ l) = omega (arith, grows (v * 10 + (b - 48)) l)
 
-pub low : (v b : ℕ) (l : List ℕ) → b < 48 → Not ≡ valued v (b ∷ l)
-unfolding valued all_digits
-low v b l h = simp (lt-leb 48 b h)
+in_range : (b : ℕ) → true ≡ is_digit b → (48 ≤ b) × (b ≤ 57)
+in_range b h = grind (arith, nat_tests)
 
-pub high : (v b : ℕ) (l : List ℕ) → 57 < b → Not ≡ valued v (b ∷ l)
+pub no_digit : (v b : ℕ) (l : List ℕ) → false ≡ is_digit b → None ≡ valued v (b ∷ l)
 unfolding valued all_digits
-high v b l h = simp (le-leb 48 b (omega arith), lt-leb b 57 h)
+no_digit v b l h = rw (← h) refl
 
 -- a digit d that fits, and one that does not
-pub fits : (v b d : ℕ) → 48 ≤ b → b ≤ 57 → d ≡ b - 48 → v * 10 + d < 18446744073709551616 → Is (v * 10 + d) ≡ valued v (b ∷ [])
+pub fits : (v b d : ℕ) → 48 ≤ b → b ≤ 57 → d ≡ b - 48 → v * 10 + d < 18446744073709551616 → Some (v * 10 + d) ≡ valued v (b ∷ [])
 unfolding valued all_digits worth
 fits v b d lo hi e h = rw e (simp (le-leb 48 b lo, le-leb b 57 hi, lt-ltb (v * 10 + (b - 48)) 18446744073709551616 (omega arith)))
 
-pub over : (v b d : ℕ) → 48 ≤ b → b ≤ 57 → d ≡ b - 48 → 18446744073709551616 ≤ v * 10 + d → Not ≡ valued v (b ∷ [])
+pub over : (v b d : ℕ) → 48 ≤ b → b ≤ 57 → d ≡ b - 48 → 18446744073709551616 ≤ v * 10 + d → None ≡ valued v (b ∷ [])
 unfolding valued all_digits worth
 over v b d lo hi e h = simp (le-leb 48 b lo, le-leb b 57 hi, le-ltb (v * 10 + (b - 48)) 18446744073709551616 (omega arith))
 
+-- a digit put behind a number that ten times is too large, and behind one that is not
+pub too_large : (v b : ℕ) → true ≡ is_digit b → (v * 10 < 18446744073709551616 → ⊥) → None ≡ valued v (b ∷ [])
+too_large v b t h = let d = in_range b t in over v b (b - 48) d.0 d.1 refl (omega (arith, h))
+
+pub added : (v b d : ℕ) (r : Option ℕ) → true ≡ is_digit b → d ≡ b - 48 → SomeIff r (v * 10 + d < 18446744073709551616) (v * 10 + d) → r ≡ valued v (b ∷ [])
+added v b d (Some x) t e h = let k = in_range b t in rw h.1 (fits v b d k.0 k.1 e h.0)
+added v b d None t e h = let k = in_range b t in over v b d k.0 k.1 e (omega (arith, h))
+
 -- what a digit taken says of the digits behind it
-is-step : (t u : Bool) (x w : ℕ) (l : List ℕ) → u ≡ ltb x 18446744073709551616 → Is w ≡ is_when (cond (cond t true false) u false) x →
+is-step : (t u : Bool) (x w : ℕ) (l : List ℕ) → u ≡ ltb x 18446744073709551616 → Some w ≡ is_when (cond (cond t true false) u false) x →
     (is_when (cond (cond t (all_digits l) false) (ltb (worth x l) 18446744073709551616) false) (worth x l) ≡ valued w l) × (w < 18446744073709551616)
 unfolding valued
 is-step true true x w l b e = let p : w ≡ x = cc in (rw p refl, rw p (ltb-true x 18446744073709551616 (sym b)))
@@ -48,23 +57,23 @@ none : (t : Bool) → cond t false false ≡ false
 none true = refl
 none false = refl
 
-not_step : (t u : Bool) (x : ℕ) (l : List ℕ) → u ≡ ltb x 18446744073709551616 → Not ≡ is_when (cond (cond t true false) u false) x →
-    is_when (cond (cond t (all_digits l) false) (ltb (worth x l) 18446744073709551616) false) (worth x l) ≡ Not
+not_step : (t u : Bool) (x : ℕ) (l : List ℕ) → u ≡ ltb x 18446744073709551616 → None ≡ is_when (cond (cond t true false) u false) x →
+    is_when (cond (cond t (all_digits l) false) (ltb (worth x l) 18446744073709551616) false) (worth x l) ≡ None
 not_step true true x l b e = let z : ◌≡◌ {A = ℕ} 0 1 = cc in absurd (omega arith)
 not_step true false x l b e =
     simp (le-ltb (worth x l) 18446744073709551616 (omega (arith, ltb-false x 18446744073709551616 (sym b), grows x l)), none (all_digits l))
 not_step false u x l b e = refl
 
-pub taken : (v b w : ℕ) (l : List ℕ) → Is w ≡ valued v (b ∷ []) → (valued v (b ∷ l) ≡ valued w l) × (w < 18446744073709551616)
+pub taken : (v b w : ℕ) (l : List ℕ) → Some w ≡ valued v (b ∷ []) → (valued v (b ∷ l) ≡ valued w l) × (w < 18446744073709551616)
 unfolding valued all_digits worth
 taken v b w l e = is-step (is_digit b) (ltb (v * 10 + (b - 48)) 18446744073709551616) (v * 10 + (b - 48)) w l refl e
 
-pub refused : (v b : ℕ) (l : List ℕ) → Not ≡ valued v (b ∷ []) → valued v (b ∷ l) ≡ Not
+pub refused : (v b : ℕ) (l : List ℕ) → None ≡ valued v (b ∷ []) → valued v (b ∷ l) ≡ None
 unfolding valued all_digits worth
 refused v b l e = not_step (is_digit b) (ltb (v * 10 + (b - 48)) 18446744073709551616) (v * 10 + (b - 48)) l refl e
 
 -- at the end of a token
-pub done : (v : ℕ) → v < 18446744073709551616 → valued v [] ≡ Is v
+pub done : (v : ℕ) → v < 18446744073709551616 → valued v [] ≡ Some v
 unfolding valued all_digits worth
 done v h = simp (lt-ltb v 18446744073709551616 h)
 
@@ -74,22 +83,22 @@ unfolding number_of
 start [] h = absurd (h refl)
 start (b ∷ l) h = refl
 
-pub no_token : (l : List ℕ) → length l ≡ 0 → Not ≡ number_of l
+pub no_token : (l : List ℕ) → length l ≡ 0 → None ≡ number_of l
 unfolding number_of
 no_token [] h = refl
 no_token (b ∷ l) h = absurd (omega arith)
 
 -- a number that a token's first i digits make: the next byte is a digit that fits, or not, or none is left
 module _ (l : List ℕ) (i v : ℕ) (rest : valued v (drop i l) ≡ number_of l) where
-  pub at-taken : (w : ℕ) → i < length l → Is w ≡ valued v (get_or l i 0 ∷ []) → (valued w (drop (suc i) l) ≡ number_of l) × (w < 18446744073709551616)
+  pub at-taken : (w : ℕ) → i < length l → Some w ≡ valued v (get_or l i 0 ∷ []) → (valued w (drop (suc i) l) ≡ number_of l) × (w < 18446744073709551616)
   at-taken w h e =
       let q : (valued v (get_or l i 0 ∷ drop (suc i) l) ≡ valued w (drop (suc i) l)) × (w < 18446744073709551616) = taken v (get_or l i 0) w (drop (suc i) l) e in
       (sym q.0 ∙ sym (ap (valued v) (drop-cons l i 0 h)) ∙ rest, q.1)
 
-  pub at-refused : i < length l → Not ≡ valued v (get_or l i 0 ∷ []) → Not ≡ number_of l
+  pub at-refused : i < length l → None ≡ valued v (get_or l i 0 ∷ []) → None ≡ number_of l
   at-refused h e = sym (refused v (get_or l i 0) (drop (suc i) l) e) ∙ sym (ap (valued v) (drop-cons l i 0 h)) ∙ rest
 
-  pub at-end : length l ≤ i → v < 18446744073709551616 → Is v ≡ number_of l
+  pub at-end : length l ≤ i → v < 18446744073709551616 → Some v ≡ number_of l
   at-end h b = sym (done v b) ∙ sym (ap (valued v) (drop_of_length-le l h)) ∙ rest
 
 -- a store at k, seen from k on
@@ -131,7 +140,3 @@ pub last : (out : List ℕ) (k r d : ℕ) (whole : List ℕ) → 1 ≤ k → k �
     spelled k r ++ drop k out ≡ whole → drop (k - 1) (set out (k - 1) d) ≡ whole
 last out zero r d whole h l t e p = absurd (omega arith)
 last out (suc k) r d whole h l t e p = let q : suc k - 1 ≡ k = omega arith in rw q (last' out k r d (omega arith) t e ∙ p)
-
--- nothing put yet
-pub unput : (out : List ℕ) (n : ℕ) → length out ≡ 20 → spelled 20 n ++ drop 20 out ≡ spelled 20 n
-unput out n e = ap (λ l. spelled 20 n ++ l) (drop_of_length-le out {i = 20} (omega arith)) ∙ append-nil (spelled 20 n)

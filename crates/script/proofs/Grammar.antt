@@ -5,60 +5,39 @@ use mathlib.Core.Path.{◌≡◌, refl, sym, ap, ◌∙◌}
 use mathlib.Core.Bool.{Bool, true, false, cond}
 use mathlib.Core.List.{List, [], ◌∷◌, ◌++◌, append_assoc, append-nil}
 use native.Mathlib.Omega.{arith}
-use native.Mathlib.Nat.{add-zero}
 use native.Mathlib.Numerals.{add-one}
 use lib.Dec.{eqb, ltb, leb}
-use lib.ListN.{length, take, drop, get_or, set, drop_of_length-le}
+use lib.ListN.{length, take, drop, set, drop_of_length-le}
 use lib.Seq.{drop-cons, drop-drop, take-suc-set}
-use borrow.Author.Tests.{eq-eqb, ne_eqb, lt-leb, le-leb, leb-true, ltb-true, lt-ltb, le-ltb}
-use Rattle.script.specs.declared.numbers.Number.{Number}
-use Rattle.script.specs.declared.numbers.Number.TheVariants.{Is, Not}
+use borrow.Author.Tests.{leb-true, ltb-true, ltb-false, lt-ltb, le-ltb}
+use Rattle.std.specs.Prelude.{◌==◌, Option, Some, None, IfSome}
+use Rattle.std.specs.List.{position, position_or_len}
+use Rattle.std.specs.Option.{unwrap_or}
+use Rattle.std.proofs.lemmas.List.Recursion.{is_position_or_len}
+use Rattle.std.proofs.lemmas.List.Sums.{prefix_len-le-length}
+use Rattle.std.proofs.lemmas.Option.{IfSome_then}
 use Rattle.script.specs.declared.parts.Tail.{Tail}
 use Rattle.script.specs.Decimal.{number_of}
 use Rattle.script.specs.Texts.{same_text}
-use Rattle.script.specs.Grammar.{onto, tokens, up_to, word_length, behind, no_tail, lent_number, lent_of, onward, tail_of, lent_text, numbers_of}
+use Rattle.script.specs.Grammar.{onto, tokens, up_to, word_length, behind, lent_then, lent_of, onward, tail_of, lent_text, Small, numbers_of}
 
--- texts of two lengths differ
-pub apart : (a b : List ℕ) → (length a ≡ length b → ⊥) → false ≡ same_text a b
-unfolding same_text
-apart [] [] h = absurd (h refl)
-apart [] (y ∷ b) h = refl
-apart (x ∷ a) [] h = refl
-apart (x ∷ a) (y ∷ b) h = apart' (eqb x y) (apart a b (λ e. h (ap suc e)))
+one_more : (n : ℕ) → suc n ≡ 1 + n
+one_more n = omega arith
+
+-- how many bytes stand before one is where it stands, or the length
+pub up_to_place : (byte : ℕ) (l : List ℕ) → up_to byte l ≡ position_or_len (λ b. b == byte) l
+unfolding up_to
+up_to_place byte l = is_position_or_len (up_to byte) (λ b. b == byte) refl (λ x xs. ap (λ n. cond (x == byte) 0 n) (one_more (up_to byte xs))) l
+
+pub up_to_found : (byte : ℕ) (l : List ℕ) (r : Option ℕ) → r ≡ position (λ b. b == byte) l → (unwrap_or r (length l) ≤ length l) × (unwrap_or r (length l) ≡ up_to byte l)
+up_to_found byte l r e = rw (e, up_to_place byte l) (either (position_or_len (λ b. b == byte) l) (length l) (prefix_len-le-length _ l))
   where
-    apart' : {s : Bool} (t : Bool) → false ≡ s → false ≡ cond t s false
-    apart' true e = e
-    apart' false e = refl
-
-same_cons : (x y : ℕ) (a b : List ℕ) → same_text (x ∷ a) (y ∷ b) ≡ cond (eqb x y) (same_text a b) false
-unfolding same_text
-same_cons x y a b = refl
-
--- of two texts the first i bytes are the same: the next ones are too, or differ, or none is left
-module _ (a b : List ℕ) (i : ℕ) (s : Bool) (rest : same_text (drop i a) (drop i b) ≡ s) where
-  pub same_on : i < length a → i < length b → get_or a i 0 ≡ get_or b i 0 → same_text (drop (suc i) a) (drop (suc i) b) ≡ s
-  same_on h k e = sym (rw (drop-cons a i 0 h, drop-cons b i 0 k, same_cons, eq-eqb (get_or a i 0) (get_or b i 0) e) refl) ∙ rest
-
-  pub same_off : i < length a → i < length b → (get_or a i 0 ≡ get_or b i 0 → ⊥) → false ≡ s
-  same_off h k e = sym (rw (drop-cons a i 0 h, drop-cons b i 0 k, same_cons, ne_eqb (get_or a i 0) (get_or b i 0) e) refl) ∙ rest
-
-  pub same_end : length a ≤ i → length b ≤ i → true ≡ s
-  unfolding same_text
-  same_end h k = sym (rw (drop_of_length-le a {i = i} h, drop_of_length-le b {i = i} k) refl) ∙ rest
-
--- of a text i bytes are passed: the next is the one that is looked for, or not, or none is left
-module _ (byte : ℕ) (l : List ℕ) (i s : ℕ) (rest : i + up_to byte (drop i l) ≡ s) where
-  pub found : i < length l → get_or l i 0 ≡ byte → i ≡ s
-  unfolding up_to
-  found h e = sym (rw (drop-cons l i 0 h, eq-eqb (get_or l i 0) byte e, add-zero) refl) ∙ rest
-
-  pub passed : i < length l → (get_or l i 0 ≡ byte → ⊥) → suc i + up_to byte (drop (suc i) l) ≡ s
-  unfolding up_to
-  passed h e = sym (rw (drop-cons l i 0 h, ne_eqb (get_or l i 0) byte e) (omega arith)) ∙ rest
-
-  pub unfound : length l ≤ i → i ≡ s
-  unfolding up_to
-  unfound h = sym (rw (drop_of_length-le l {i = i} h, add-zero) refl) ∙ rest
+    either : (k n : ℕ) → k ≤ n → (unwrap_or (cond (ltb k n) (Some k) None) n ≤ n) × (unwrap_or (cond (ltb k n) (Some k) None) n ≡ k)
+    either k n h = pick (ltb k n) refl
+      where
+        pick : (t : Bool) → t ≡ ltb k n → (unwrap_or (cond t (Some k) None) n ≤ n) × (unwrap_or (cond t (Some k) None) n ≡ k)
+        pick true e = (h, refl)
+        pick false e = (omega arith, omega (arith, ltb-false k n (sym e)))
 
 -- a text is its first token and what stands behind it
 pub cut : (l : List ℕ) → tokens l ≡ take (word_length l) l ∷ behind (drop (word_length l) l)
@@ -80,11 +59,11 @@ turn l i e h p =
     rw (drop-cons l i 0 h, ← add-one i, q, p, ← drop-drop (word_length (drop (i + 1) l)) (i + 1) l) (cut (drop (i + 1) l))
 
 -- the lent count: none, two tokens or more, one token
-pub lent_none : (l : List ℕ) (i k : ℕ) → length l ≤ i → no_tail ≡ lent_of k (behind (drop i l))
+pub lent_none : (l : List ℕ) (i k : ℕ) → length l ≤ i → None ≡ lent_of k (behind (drop i l))
 unfolding lent_of behind
 lent_none l i k h = rw (drop_of_length-le l {i = i} h) refl
 
-several : (k : ℕ) (t : List ℕ) (l : List ℕ) → no_tail ≡ lent_of k (t ∷ tokens l)
+several : (k : ℕ) (t : List ℕ) (l : List ℕ) → None ≡ lent_of k (t ∷ tokens l)
 unfolding lent_of
 several k t l = rw (cut l) refl
 
@@ -96,55 +75,46 @@ behind-end : (l : List ℕ) (e : ℕ) → length l ≤ e → behind (drop e l) �
 unfolding behind
 behind-end l e q = rw (drop_of_length-le l {i = e} q) refl
 
-lent_alone : (k : ℕ) (t : List ℕ) (ts : List (List ℕ)) → ts ≡ [] → lent_of k (t ∷ ts) ≡ lent_number k (number_of t)
+lent_alone : (k : ℕ) (t : List ℕ) (ts : List (List ℕ)) → ts ≡ [] → lent_of k (t ∷ ts) ≡ lent_then k (number_of t)
 unfolding lent_of
 lent_alone k t ts r = rw r refl
 
-pub lent_several : (l : List ℕ) (i e k : ℕ) → i < length l → e ≡ i + 1 + word_length (drop (i + 1) l) → e < length l → no_tail ≡ lent_of k (behind (drop i l))
+pub lent_several : (l : List ℕ) (i e k : ℕ) → i < length l → e ≡ i + 1 + word_length (drop (i + 1) l) → e < length l → None ≡ lent_of k (behind (drop i l))
 lent_several l i e k h p q =
     let t : List ℕ = take (e - (i + 1)) (drop (i + 1) l) in
     several k t (drop (suc e) l) ∙ sym (ap (lent_of k) (turn l i e h p ∙ ap (λ (m : List (List ℕ)). t ∷ m) (behind_on l e q)))
 
 pub lent_one : (l : List ℕ) (i e k : ℕ) → i < length l → e ≡ i + 1 + word_length (drop (i + 1) l) → length l ≤ e →
-    lent_number k (number_of (take (e - (i + 1)) (drop (i + 1) l))) ≡ lent_of k (behind (drop i l))
+    lent_then k (number_of (take (e - (i + 1)) (drop (i + 1) l))) ≡ lent_of k (behind (drop i l))
 lent_one l i e k h p q = sym (ap (lent_of k) (turn l i e h p) ∙ lent_alone k (take (e - (i + 1)) (drop (i + 1) l)) (behind (drop e l)) (behind-end l e q))
 
-pub lent-over : (k n : ℕ) (x : Number) → x ≡ Is n → 4096 < n → no_tail ≡ lent_number k x
-lent-over k n x e h = rw (e, lt-leb n 4096 h) refl
-
-pub lent_fits : (k n : ℕ) (x : Number) → x ≡ Is n → n ≤ 4096 → record { good = true; lends = true; count = k; lent = n } ≡ lent_number k x
-lent_fits k n x e h = rw (e, le-leb n 4096 h) refl
-
--- what stands behind a name within bounds
-abbrev pub Small : Tail → Type 0
-Small t = (t.count ≤ 2048) × (t.lent ≤ 4096)
-
-number_small : (k : ℕ) (x : Number) → k ≤ 2048 → Small (lent_number k x)
-number_small k Not h = (omega arith, omega arith)
-number_small k (Is n) h = pick (leb n 4096) refl
+-- what stands behind a name is within bounds
+number_small : (k : ℕ) (x : Option ℕ) → k ≤ 2048 → IfSome (lent_then k x) Small
+number_small k None h = tt
+number_small k (Some n) h = pick (leb n 4096) refl
   where
-    pick : (t : Bool) → t ≡ leb n 4096 → Small (cond t (record { good = true; lends = true; count = k; lent = n }) no_tail)
+    pick : (t : Bool) → t ≡ leb n 4096 → IfSome (cond t (Some (record { count = k; lent = Some n })) None) Small
     pick true e = (h, leb-true n 4096 (sym e))
-    pick false e = (omega arith, omega arith)
+    pick false e = tt
 
-lent-small : (k : ℕ) (ts : List (List ℕ)) → k ≤ 2048 → Small (lent_of k ts)
+lent-small : (k : ℕ) (ts : List (List ℕ)) → k ≤ 2048 → IfSome (lent_of k ts) Small
 unfolding lent_of
-lent-small k [] h = (omega arith, omega arith)
+lent-small k [] h = tt
 lent-small k (t ∷ []) h = number_small k (number_of t) h
-lent-small k (t ∷ u ∷ ts) h = (omega arith, omega arith)
+lent-small k (t ∷ u ∷ ts) h = tt
 
-on_small : (x : Number) (t : Bool) (r : Tail) → (t ≡ true → Small r) → Small (onward x t r)
-on_small (Is n) true r h = h refl
-on_small (Is n) false r h = (omega arith, omega arith)
-on_small Not t r h = (omega arith, omega arith)
+on_small : (x : Option ℕ) (t : Bool) (r : Option Tail) → (t ≡ true → IfSome r Small) → IfSome (onward x t r) Small
+on_small (Some n) true r h = h refl
+on_small (Some n) false r h = tt
+on_small None t r h = tt
 
-cond_small : (t : Bool) (a b : Tail) → Small a → Small b → Small (cond t a b)
+cond_small : (t : Bool) (a b : Option Tail) → IfSome a Small → IfSome b Small → IfSome (cond t a b) Small
 cond_small true a b x y = x
 cond_small false a b x y = y
 
-pub tail_small : (k : ℕ) (ts : List (List ℕ)) → k ≤ 2048 → Small (tail_of k ts)
+pub tail_small : (k : ℕ) (ts : List (List ℕ)) → k ≤ 2048 → IfSome (tail_of k ts) Small
 unfolding tail_of
-tail_small k [] h = (h, omega arith)
+tail_small k [] h = (h, tt)
 tail_small k (t ∷ ts) h =
     cond_small (same_text t lent_text) _ _ (lent-small k ts h)
     (on_small (number_of t) (ltb k 2048) (tail_of (k + 1) ts) (λ e. tail_small (k + 1) ts (omega (arith, ltb-true k 2048 e))))
@@ -162,26 +132,26 @@ module _ (l : List ℕ) (i e : ℕ) (h : i < length l) (p : e ≡ i + 1 + word_l
   unfolding numbers_of
   numbers-lent s = ap numbers_of (turn l i e h p) ∙ rw (← s) refl
 
-  pub tail_number : (k n : ℕ) → false ≡ same_text token lent_text → Is n ≡ number_of token → k < 2048 →
+  pub tail_number : (k n : ℕ) → false ≡ same_text token lent_text → Some n ≡ number_of token → k < 2048 →
       tail_of k (behind (drop i l)) ≡ tail_of (k + 1) (behind (drop e l))
   unfolding tail_of
   tail_number k n s x b = ap (tail_of k) (turn l i e h p) ∙ rw (← s, ← x, lt-ltb k 2048 b) refl
 
-  pub numbers_number : (n : ℕ) → false ≡ same_text token lent_text → Is n ≡ number_of token →
+  pub numbers_number : (n : ℕ) → false ≡ same_text token lent_text → Some n ≡ number_of token →
       numbers_of (behind (drop i l)) ≡ n ∷ numbers_of (behind (drop e l))
   unfolding numbers_of
   numbers_number n s x = ap numbers_of (turn l i e h p) ∙ rw (← s, ← x) refl
 
-  pub tail_not : (k : ℕ) → false ≡ same_text token lent_text → Not ≡ number_of token → tail_of k (behind (drop i l)) ≡ no_tail
+  pub tail_not : (k : ℕ) → false ≡ same_text token lent_text → None ≡ number_of token → tail_of k (behind (drop i l)) ≡ None
   unfolding tail_of
   tail_not k s x = ap (tail_of k) (turn l i e h p) ∙ rw (← s, ← x) refl
 
-  pub tail_many : (k n : ℕ) → false ≡ same_text token lent_text → Is n ≡ number_of token → 2048 ≤ k → tail_of k (behind (drop i l)) ≡ no_tail
+  pub tail_many : (k n : ℕ) → false ≡ same_text token lent_text → Some n ≡ number_of token → 2048 ≤ k → tail_of k (behind (drop i l)) ≡ None
   unfolding tail_of
   tail_many k n s x b = ap (tail_of k) (turn l i e h p) ∙ rw (← s, ← x, le-ltb k 2048 b) refl
 
 -- the end of the line
-pub tail_end : (l : List ℕ) (i k : ℕ) → length l ≤ i → tail_of k (behind (drop i l)) ≡ record { good = true; lends = false; count = k; lent = 0 }
+pub tail_end : (l : List ℕ) (i k : ℕ) → length l ≤ i → tail_of k (behind (drop i l)) ≡ Some (record { count = k; lent = None })
 unfolding tail_of behind
 tail_end l i k h = rw (drop_of_length-le l {i = i} h) refl
 
@@ -189,28 +159,24 @@ pub numbers-end : (l : List ℕ) (i : ℕ) → length l ≤ i → numbers_of (be
 unfolding numbers_of behind
 numbers-end l i h = rw (drop_of_length-le l {i = i} h) refl
 
--- a good lent count has the numbers before it
-pub lent-count : (k : ℕ) (ts : List (List ℕ)) → (lent_of k ts).good ≡ true → (lent_of k ts).count ≡ k
+-- a lent count has the numbers before it
+lent-count : (k : ℕ) (ts : List (List ℕ)) → IfSome (lent_of k ts) (λ t. t.count ≡ k)
 unfolding lent_of
-lent-count k [] h = let z : ◌≡◌ {A = ℕ} 0 1 = cc in absurd (omega arith)
-lent-count k (t ∷ []) h = one (number_of t) h
+lent-count k [] = tt
+lent-count k (t ∷ []) = one (number_of t)
   where
-    pick : (n : ℕ) (t : Bool) → (cond {A = Tail} t (record { good = true; lends = true; count = k; lent = n }) no_tail).good ≡ true →
-        (cond {A = Tail} t (record { good = true; lends = true; count = k; lent = n }) no_tail).count ≡ k
-    pick n true e = refl
-    pick n false e = let z : ◌≡◌ {A = ℕ} 0 1 = cc in absurd (omega arith)
+    pick : (n : ℕ) (t : Bool) → IfSome (cond t (Some (record { count = k; lent = Some n })) None) (λ (t : Tail). t.count ≡ k)
+    pick n true = refl
+    pick n false = tt
 
-    one : (x : Number) → (lent_number k x).good ≡ true → (lent_number k x).count ≡ k
-    one (Is n) e = pick n (leb n 4096) e
-    one Not e = let z : ◌≡◌ {A = ℕ} 0 1 = cc in absurd (omega arith)
-lent-count k (t ∷ u ∷ ts) h = let z : ◌≡◌ {A = ℕ} 0 1 = cc in absurd (omega arith)
+    one : (x : Option ℕ) → IfSome (lent_then k x) (λ t. t.count ≡ k)
+    one (Some n) = pick n (leb n 4096)
+    one None = tt
+lent-count k (t ∷ u ∷ ts) = tt
 
 -- what a result that equals a tail has
-pub small_of : (r t : Tail) → r ≡ t → Small t → Small r
+pub small_of : (r t : Option Tail) → r ≡ t → IfSome t Small → IfSome r Small
 small_of r t e h = rw e h
-
-pub not_good : (r : Tail) → r ≡ no_tail → r.good ≡ true → ⊥
-not_good r e g = let z : ◌≡◌ {A = ℕ} 0 1 = cc in omega arith
 
 -- one number stored, and none left
 pub stored_number : (numbers : List ℕ) (k n : ℕ) (rest rest' all : List ℕ) → k < length numbers → rest ≡ n ∷ rest' → take k numbers ++ rest ≡ all →
@@ -220,8 +186,6 @@ stored_number numbers k n rest rest' all h e p = rw (add-one, take-suc-set, appe
 pub all_stored : (numbers rest all : List ℕ) (k : ℕ) → rest ≡ [] → take k numbers ++ rest ≡ all → take k numbers ≡ all
 all_stored numbers rest all k e p = sym (append-nil (take k numbers)) ∙ ap (λ (m : List ℕ). take k numbers ++ m) (sym e) ∙ p
 
-pub lent_stored : (numbers rest all : List ℕ) (k : ℕ) (ts : List (List ℕ)) (r : Tail) → r ≡ lent_of k ts → rest ≡ [] → take k numbers ++ rest ≡ all →
-    r.good ≡ true → take r.count numbers ≡ all
-lent_stored numbers rest all k ts r q e p g =
-    let m : r.count ≡ k = ap (λ (t : Tail). t.count) q ∙ lent-count k ts (sym (ap (λ (t : Tail). t.good) q) ∙ g) in
-    rw m (all_stored numbers rest all k e p)
+pub lent_stored : (numbers rest all : List ℕ) (k : ℕ) (ts : List (List ℕ)) (r : Option Tail) → r ≡ lent_of k ts → rest ≡ [] → take k numbers ++ rest ≡ all →
+    IfSome r (λ t. take t.count numbers ≡ all)
+lent_stored numbers rest all k ts r q e p = rw q (IfSome_then (lent_of k ts) (lent-count k ts) (λ t m. rw m (all_stored numbers rest all k e p)))

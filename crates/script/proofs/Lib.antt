@@ -2,4 +2,3 @@
 -- Assumes nothing.
 pub mod Digits
 pub mod Grammar
-pub mod Names

@@ -1,11 +1,14 @@
 -- The grammar of a line: its tokens, the numbers behind its name, and the lent count.
 -- Assumes nothing.
-use Rattle.std.specs.Prelude.{ℕ, zero, suc, ◌+◌, Bool, true, false, cond, List, [], ◌∷◌, leb, ltb, eqb}
-use Rattle.script.specs.declared.numbers.Number.{Number}
-use Rattle.script.specs.declared.numbers.Number.TheVariants.{Is, Not}
+use Rattle.std.specs.Prelude.{ℕ, zero, suc, ◌+◌, ◌≤◌, Bool, true, false, cond, List, [], ◌∷◌, leb, ltb, eqb, Option, Some, None, IfSome}
 use Rattle.script.specs.declared.parts.Tail.{Tail}
 use Rattle.script.specs.Decimal.{number_of}
 use Rattle.script.specs.Texts.{bytes, same_text}
+
+-- an empty line, and one that begins with `#`
+abbrev pub is_remark : List ℕ → Bool
+is_remark [] = true
+is_remark (b ∷ l) = eqb b 35
 
 abbrev pub onto : ℕ → List (List ℕ) → List (List ℕ)
 onto b [] = (b ∷ []) ∷ []
@@ -33,33 +36,37 @@ behind (b ∷ l) = tokens l
 abbrev pub lent_text : List ℕ
 lent_text = bytes "lent"
 
-abbrev pub no_tail : Tail
-no_tail = record { good = false; lends = false; count = 0; lent = 0 }
-
 -- the lent count behind k numbers: 0 to 4,096, and the last token
-abbrev pub lent_number : ℕ → Number → Tail
-lent_number k (Is n) = cond (leb n 4096) (record { good = true; lends = true; count = k; lent = n }) no_tail
-lent_number k Not = no_tail
+abbrev pub lent_number : ℕ → ℕ → Option Tail
+lent_number k n = cond (leb n 4096) (Some (record { count = k; lent = Some n })) None
 
-unfoldable pub lent_of : ℕ → List (List ℕ) → Tail
-lent_of k [] = no_tail
-lent_of k (t ∷ []) = lent_number k (number_of t)
-lent_of k (t ∷ u ∷ ts) = no_tail
+abbrev pub lent_then : ℕ → Option ℕ → Option Tail
+lent_then k (Some n) = lent_number k n
+lent_then k None = None
 
-abbrev pub onward : Number → Bool → Tail → Tail
-onward (Is n) true r = r
-onward (Is n) false r = no_tail
-onward Not t r = no_tail
+unfoldable pub lent_of : ℕ → List (List ℕ) → Option Tail
+lent_of k [] = None
+lent_of k (t ∷ []) = lent_then k (number_of t)
+lent_of k (t ∷ u ∷ ts) = None
+
+abbrev pub onward : Option ℕ → Bool → Option Tail → Option Tail
+onward (Some n) true r = r
+onward (Some n) false r = None
+onward None t r = None
 
 -- the tokens behind a name and k numbers: numbers, 2,048 in all at most, and the lent count
-unfoldable pub tail_of : ℕ → List (List ℕ) → Tail
+unfoldable pub tail_of : ℕ → List (List ℕ) → Option Tail
 unfolding lent_of
-tail_of k [] = record { good = true; lends = false; count = k; lent = 0 }
+tail_of k [] = Some (record { count = k; lent = None })
 tail_of k (t ∷ ts) = cond (same_text t lent_text) (lent_of k ts) (onward (number_of t) (ltb k 2048) (tail_of (k + 1) ts))
 
-abbrev pub number_then : Number → List ℕ → List ℕ
-number_then (Is n) l = n ∷ l
-number_then Not l = []
+-- what stands behind a name within bounds
+abbrev pub Small : Tail → Type 0
+Small t = (t.count ≤ 2048) × IfSome t.lent (λ n. n ≤ 4096)
+
+abbrev pub number_then : Option ℕ → List ℕ → List ℕ
+number_then (Some n) l = n ∷ l
+number_then None l = []
 
 -- the numbers behind a name, up to the first token that is none
 unfoldable pub numbers_of : List (List ℕ) → List ℕ

@@ -1,6 +1,5 @@
 -- What the contracts of the script's text cite.
 -- Assumes nothing.
-pub mod Lines
 pub mod Texts
 pub mod Decimal
 pub mod Calls

@@ -1,18 +1,29 @@
 -- What a line taken apart keeps to.
 -- Assumes nothing.
-use Rattle.std.specs.Prelude.{ℕ, ◌≤◌, ◌<◌, ◌≡◌, false}
-use Rattle.script.specs.Calls.{codes, count_of, takes_list}
-use Rattle.script.specs.declared.parts.Parsed.{Parsed}
+use Rattle.std.specs.Prelude.{ℕ, ◌<◌, ◌≡◌, cond, false, true, List, take, drop, Some, IfSome, slice_index}
+use Rattle.std.specs.Option.{unwrap_or}
+use Rattle.script.specs.Calls.{code_of, takes_list}
+use Rattle.script.specs.Grammar.{word_length, behind, tail_of, numbers_of, is_remark}
+use Rattle.script.specs.declared.parts.Tail.{Tail}
+use Rattle.script.specs.declared.line.Line.{Line}
+use Rattle.script.specs.declared.line.Line.TheVariants.{Skip, Repeat, Call, Malformed}
 
--- a call takes this count of numbers: it is the call's own, unless it takes any
-pub record Takes (code count : ℕ) : Type 0 where
-  pub own : (count_of code ≡ 255 → ⊥) → count ≡ count_of code
+-- what a call's code, what stands behind its name and the first number make
+abbrev pub Fits : ℕ → Tail → ℕ → Line → Type 0
+Fits code tail first Skip = ⊥
+Fits code tail first (Repeat times) = (code ≡ 0) × (times ≡ first) × (0 < times)
+Fits code tail first (Call call) = (call.code ≡ code) × (call.count ≡ tail.count) × (call.lent ≡ cond (takes_list code) (unwrap_or tail.lent 0) 0)
+Fits code tail first Malformed = ⊥
 
--- the code is known, the numbers and the lent words are within their arrays, a call with a fixed count has as many numbers, and one that
--- takes no list is lent none
-pub record Sound (p : Parsed) : Type 0 where
-  pub known : p.code < codes
-  pub numbers : p.count ≤ 2048
-  pub words : p.lent ≤ 4096
-  pub takes : Takes p.code p.count
-  pub none : takes_list p.code ≡ false → p.lent ≡ 0
+-- what a line is taken for: skipped just where it is empty or a remark; a call by its name, with the numbers that stand behind it in front of `numbers`, and the
+-- lent count where it takes a list
+abbrev pub Says : List ℕ → List ℕ → Line → Type 0
+Says line numbers Skip = is_remark line ≡ true
+Says line numbers (Repeat times) =
+    (is_remark line ≡ false) × (code_of (take (word_length line) line) ≡ Some 0) × (times ≡ slice_index numbers 0) × (0 < times)
+Says line numbers (Call call) =
+    (is_remark line ≡ false)
+    × (code_of (take (word_length line) line) ≡ Some call.code)
+    × (take call.count numbers ≡ numbers_of (behind (drop (word_length line) line)))
+    × IfSome (tail_of 0 (behind (drop (word_length line) line))) (λ tail. call.lent ≡ cond (takes_list call.code) (unwrap_or tail.lent 0) 0)
+Says line numbers Malformed = is_remark line ≡ false

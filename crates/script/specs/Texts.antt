@@ -1,6 +1,7 @@
 -- Texts: written down, and compared.
 -- Assumes nothing.
-use Rattle.std.specs.Prelude.{ℕ, Bool, true, false, cond, List, [], ◌∷◌, eqb}
+use Rattle.std.specs.Prelude.{ℕ, Bool, List, [], ◌∷◌}
+use Rattle.std.specs.Str.{bytes_eq}
 use Prim.Native.Char.{code}
 use Prim.Native.String.{String, [] as empty, ◌∷◌ as ◌then◌}
 
@@ -10,8 +11,5 @@ bytes empty = []
 bytes (c then s) = code c ∷ bytes s
 
 -- two texts are the same
-unfoldable pub same_text : List ℕ → List ℕ → Bool
-same_text [] [] = true
-same_text [] (y ∷ b) = false
-same_text (x ∷ a) [] = false
-same_text (x ∷ a) (y ∷ b) = cond (eqb x y) (same_text a b) false
+abbrev pub same_text : List ℕ → List ℕ → Bool
+same_text a b = bytes_eq a b

@@ -1,135 +1,108 @@
 // The calls of a script: a row for each, with its name, how many numbers it takes, and whether it takes a list. Its code is its row's place.
-ghost use Rattle.std.specs.Prelude.{◌≡◌, map, ◌<◌, ltb, drop};
+ghost use Rattle.std.specs.Prelude.{◌≡◌, ◌<◌, None, IfSome, map, get_or, position};
 ghost use Rattle.script.specs.Texts.{same_text};
-ghost use Rattle.script.specs.Calls.{codes, count_of, takes_list, code_of, named, name_in};
+ghost use Rattle.script.specs.Calls.{codes, count_of, takes_list, code_of};
 
-use crate::tokens::{same, token_end};
+// Codes of calls that are asked for by name. They stay places in the table, since dispatch numbers its kinds in the table's order.
+pub const REPEAT: usize = 0;
 
-// Codes that are no call's: a line to skip, and a malformed one.
-pub const SKIP: u8 = 0;
+pub const NEW: usize = 1;
 
-pub const BAD: u8 = 1;
+pub const CERTIFY: usize = 4;
 
-// Codes of calls that are asked for by name.
-pub const REPEAT: u8 = 2;
+pub const SETTLED: usize = 6;
 
-pub const NEW: u8 = 3;
+pub const RETURNED: usize = 7;
 
-pub const CERTIFY: u8 = 6;
+pub const RECORD_TERMINAL: usize = 12;
 
-pub const SETTLED: u8 = 8;
+pub const STAMP_TERMINAL: usize = 13;
 
-pub const RETURNED: u8 = 9;
+pub const PRUNE: usize = 14;
 
-pub const RECORD_TERMINAL: u8 = 14;
+pub const QUESTIONS: usize = 15;
 
-pub const STAMP_TERMINAL: u8 = 15;
+pub const DUMP: usize = 32;
 
-pub const PRUNE: u8 = 16;
-
-pub const QUESTIONS: u8 = 17;
-
-pub const DUMP: u8 = 34;
-
-// What `count_of` answers for a call that takes any count of numbers.
-pub const ANY: usize = 255;
-
-// A name, with spaces behind it; how many numbers the call takes; how many words an item of its list has, 0 where it takes none.
+// A name; how many numbers the call takes, where not any count will do; how many words an item of its list has, where it takes one.
 #[derive(Clone, Copy)]
-struct Row([u8; 20], usize, u8);
+struct Row(&'static [u8], Option<usize>, Option<usize>);
 
-// How many codes there are.
-const CODES: usize = 35;
+// How many calls there are.
+const CODES: usize = 33;
 
-// By code. The first two are no calls.
 const ROWS: [Row; CODES] = [
-    Row(*b"                    ", 0, 0),
-    Row(*b"                    ", 0, 0),
-    Row(*b"repeat              ", 1, 0),
-    Row(*b"new                 ", 4, 0),
-    Row(*b"register_committed  ", 255, 0),
-    Row(*b"record_absence      ", 3, 0),
-    Row(*b"certify             ", 2, 0),
-    Row(*b"record_abandonment  ", 255, 0),
-    Row(*b"settled             ", 2, 0),
-    Row(*b"returned            ", 2, 0),
-    Row(*b"closes              ", 0, 2),
-    Row(*b"fated               ", 1, 0),
-    Row(*b"release_resolved    ", 255, 0),
-    Row(*b"forget              ", 1, 0),
-    Row(*b"record_terminal     ", 4, 0),
-    Row(*b"stamp_terminal      ", 2, 0),
-    Row(*b"prune               ", 1, 3),
-    Row(*b"questions           ", 0, 5),
-    Row(*b"open_at             ", 6, 0),
-    Row(*b"answers             ", 7, 0),
-    Row(*b"past_deadline       ", 1, 5),
-    Row(*b"issuers_of          ", 1, 2),
-    Row(*b"claimants           ", 2, 1),
-    Row(*b"counterparts        ", 2, 1),
-    Row(*b"unstamped_departures", 0, 1),
-    Row(*b"reach               ", 1, 1),
-    Row(*b"abandonment_answers ", 1, 0),
-    Row(*b"is_covered          ", 1, 0),
-    Row(*b"departed            ", 1, 0),
-    Row(*b"executed            ", 1, 0),
-    Row(*b"reaches_beyond      ", 1, 0),
-    Row(*b"issued_by           ", 2, 0),
-    Row(*b"local               ", 0, 0),
-    Row(*b"rebuilt             ", 0, 0),
-    Row(*b"dump                ", 0, 0),
+    Row(b"repeat", Some(1), None),
+    Row(b"new", Some(4), None),
+    Row(b"register_committed", None, None),
+    Row(b"record_absence", Some(3), None),
+    Row(b"certify", Some(2), None),
+    Row(b"record_abandonment", None, None),
+    Row(b"settled", Some(2), None),
+    Row(b"returned", Some(2), None),
+    Row(b"closes", Some(0), Some(2)),
+    Row(b"fated", Some(1), None),
+    Row(b"release_resolved", None, None),
+    Row(b"forget", Some(1), None),
+    Row(b"record_terminal", Some(4), None),
+    Row(b"stamp_terminal", Some(2), None),
+    Row(b"prune", Some(1), Some(3)),
+    Row(b"questions", Some(0), Some(5)),
+    Row(b"open_at", Some(6), None),
+    Row(b"answers", Some(7), None),
+    Row(b"past_deadline", Some(1), Some(5)),
+    Row(b"issuers_of", Some(1), Some(2)),
+    Row(b"claimants", Some(2), Some(1)),
+    Row(b"counterparts", Some(2), Some(1)),
+    Row(b"unstamped_departures", Some(0), Some(1)),
+    Row(b"reach", Some(1), Some(1)),
+    Row(b"abandonment_answers", Some(1), None),
+    Row(b"is_covered", Some(1), None),
+    Row(b"departed", Some(1), None),
+    Row(b"executed", Some(1), None),
+    Row(b"reaches_beyond", Some(1), None),
+    Row(b"issued_by", Some(2), None),
+    Row(b"local", Some(0), None),
+    Row(b"rebuilt", Some(0), None),
+    Row(b"dump", Some(0), None),
 ];
 
-// How many numbers a call takes, or ANY.
-pub fn count_of(code: u8) -> usize
+// How many numbers a call takes, where not any count will do.
+pub fn count_of(code: usize) -> Option<usize>
     requires { code < codes }
     ensures { result ≡ count_of code }
 {
-    let row = row_of(code);
-    row.1
+    row_of(code, &ROWS).1
 }
 
 // Whether a call takes a list.
-pub fn takes_list(code: u8) -> bool
+pub fn takes_list(code: usize) -> bool
     requires { code < codes }
     ensures { result ≡ takes_list code }
 {
-    let row = row_of(code);
-    0 < row.2
+    row_of(code, &ROWS).2.is_some()
 }
 
-fn row_of(code: u8) -> Row
+fn row_of(code: usize, rows: &[Row; CODES]) -> Row
     requires { code < codes }
-    ensures { (result.1 ≡ count_of code) × (ltb 0 result.2 ≡ takes_list code) }
+    ensures count { result.1 ≡ get_or (map (λ row. row.1) rows.now) code None }
+    ensures item { result.2 ≡ get_or (map (λ row. row.2) rows.now) code None }
 {
-    ROWS[code as usize]
+    rows[code]
 }
 
-// The code of a name, or BAD.
-pub fn code_of(name: &[u8]) -> u8
-    ensures { (result < codes) × (result ≡ code_of name.now) }
+// The code of a name.
+pub fn code_of(name: &[u8]) -> Option<usize>
+    ensures known { IfSome result (λ code. code < codes) }
+    ensures value { result ≡ code_of name.now }
 {
-    place_of(name, ROWS)
+    place_of(name, &ROWS)
 }
 
-// The first row of that name, from the third on, or BAD.
-fn place_of(name: &[u8], rows: [Row; CODES]) -> u8
-    ensures { (result < codes) × (result ≡ named 2 (map name_in (drop 2 rows)) name.now) }
+// The first row of that name.
+fn place_of(name: &[u8], rows: &[Row; CODES]) -> Option<usize>
+    ensures known { IfSome result (λ code. code < codes) }
+    ensures value { result ≡ position (λ row. same_text name.now row.0.now) rows.now }
 {
-    let mut code = 2;
-    while code < CODES {
-        if is_named(name, rows[code]) {
-            return code as u8;
-        }
-        code += 1;
-    }
-    BAD
-}
-
-fn is_named(name: &[u8], row: Row) -> bool
-    ensures { result ≡ same_text name.now (name_in row) }
-{
-    let text = row.0;
-    let end = token_end(&text, 0);
-    same(name, &text[0..end])
+    rows.iter().position(|row| name == row.0)
 }

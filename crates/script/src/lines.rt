@@ -1,185 +1,126 @@
-// Lines of an input, in a buffer of 65,536 bytes that the caller owns, as the input is.
+// Lines of an input, by way of a buffer of 65,536 bytes.
 //
 // A last line without a newline is a line. A read that fails counts as the end of the input. A line that
 // does not fit is made shorter where that does not change its meaning: a comment is cut to its first
 // byte, and a zero that leads a number is dropped. So a line that still does not fit is malformed: 2,048
 // numbers of 20 digits, a name and a lent count take fewer than 43,100 bytes.
-ghost use Rattle.script.specs.Lines.{Within};
-ghost use Rattle.std.specs.Prelude.{◌+◌, ◌≤◌, ◌<◌, ◌≡◌, length};
+ghost use Rattle.std.specs.Prelude.{◌+◌, ◌≤◌, ◌<◌, ◌≡◌, length, IfSome, IfOk};
 
+use crate::numbers::is_digit;
 use crate::tokens::first_of;
 use std::io::Read;
 
-// What `next_line` found: a line, the end of the input, or a line that does not fit.
-pub const AT_LINE: u8 = 0;
+// A line that does not fit.
+#[derive(Clone, Copy, Debug)]
+pub struct TooLong;
 
-pub const AT_END: u8 = 1;
-
-pub const TOO_LONG: u8 = 2;
-
-// Where things lie in the buffer: the line that was found, from start to end, and what was read and not
-// yet handed out, from next to filled.
-#[derive(Clone, Copy)]
-pub struct Lines {
-    pub found: u8,
-    pub start: usize,
-    pub end: usize,
-    pub next: usize,
-    pub filled: usize,
-    pub ended: bool,
-    pub long: bool,
+// Whether there is more to read; after a line that does not fit nothing is read.
+#[derive(Clone, Copy, PartialEq, Eq)]
+enum State {
+    Reading,
+    Ended,
+    TooLong,
 }
 
-// Before the first line.
-pub fn begin() -> Lines
-    ensures { Within result }
-{
-    Lines {
-        found: AT_LINE,
-        start: 0,
-        end: 0,
-        next: 0,
-        filled: 0,
-        ended: false,
-        long: false,
-    }
+// What was read and not yet handed out stands in the buffer from next to filled. The project has no heap, so the buffer is an array.
+#[derive(Drop)]
+pub struct Reader<R> {
+    input: R,
+    buf: [u8; 65536],
+    next: usize,
+    filled: usize,
+    state: State,
+    ghost rest: { next ≤ filled },
+    ghost room: { filled ≤ 65536 },
 }
 
-// Finds the next line, and reads on where the buffer does not hold the whole of it.
-pub fn next_line<R: Read>(input: &mut R, buf: &mut [u8; 65536], lines: Lines) -> Lines
-    requires { Within lines }
-    ensures { Within result }
-{
-    let mut now_at = lines;
-    let mut turns = u64::MAX;
-    while turns > 0 {
-        let next = now_at.next;
-        let filled = now_at.filled;
-        let end = newline(buf, next, filled);
-        if end < filled {
-            return now_at.line(end);
+impl<R: Read> Reader<R> {
+    // Before the first line.
+    pub fn new(input: R) -> Self {
+        Reader {
+            input,
+            buf: [0; 65536],
+            next: 0,
+            filled: 0,
+            state: State::Reading,
         }
-        if now_at.ended {
-            return now_at.last();
-        }
-        now_at = more(input, buf, now_at);
-        turns -= 1;
     }
-    now_at.last()
-}
 
-impl Lines {
-    // The line that ends at a newline.
-    fn line(self, end: usize) -> Lines
-        requires { (self.next ≤ end) × (end < self.filled) × (self.filled ≤ 65536) }
-        ensures { Within result }
+    // The next line, or none at the end of the input; reads on where the buffer does not hold the whole of it.
+    pub fn next_line(&mut self) -> Option<Result<&[u8], TooLong>> {
+        match self.find()? {
+            Ok((start, end)) => {
+                let read = &*self;
+                Some(Ok(&read.buf[start..end]))
+            }
+            Err(TooLong) => Some(Err(TooLong)),
+        }
+    }
+
+    // Where the next line starts and ends.
+    fn find(&mut self) -> Option<Result<(usize, usize), TooLong>>
+        ensures { IfSome result (λ found. IfOk found (λ place. (place.0 ≤ place.1) × (place.1 ≤ 65536))) }
     {
-        Lines {
-            found: AT_LINE,
-            start: self.next,
-            end,
-            next: end + 1,
-            filled: self.filled,
-            ended: self.ended,
-            long: self.long,
+        for _ in 0..u64::MAX {
+            let start = self.next;
+            let end = first_of(b'\n', &self.buf[..self.filled], start);
+            if end < self.filled {
+                self.next = end + 1;
+                return Some(Ok((start, end)));
+            }
+            if self.state != State::Reading {
+                break;
+            }
+            self.read_on();
         }
+        self.last()
     }
 
     // What is left at the end of the input: a line where there is anything.
-    fn last(self) -> Lines
-        requires { Within self }
-        ensures { Within result }
+    fn last(&mut self) -> Option<Result<(usize, usize), TooLong>>
+        ensures { IfSome result (λ found. IfOk found (λ place. (place.0 ≤ place.1) × (place.1 ≤ 65536))) }
     {
-        let found = if self.long {
-            TOO_LONG
-        } else if self.next == self.filled {
-            AT_END
-        } else {
-            AT_LINE
-        };
-        Lines {
-            found,
-            start: self.next,
-            end: self.filled,
-            next: self.filled,
-            filled: self.filled,
-            ended: true,
-            long: self.long,
+        let start = self.next;
+        self.next = self.filled;
+        if self.state == State::TooLong {
+            return Some(Err(TooLong));
         }
+        self.state = State::Ended;
+        if start == self.filled {
+            return None;
+        }
+        Some(Ok((start, self.filled)))
     }
-}
 
-// The first newline from `from` up to `to`, or `to`.
-fn newline(buf: &[u8], from: usize, to: usize) -> usize
-    requires { (from ≤ to) × (to ≤ length buf.now) }
-    ensures { (from ≤ result) × (result ≤ to) }
-{
-    first_of(b'\n', &buf[0..to], from)
-}
-
-// Brings what is not handed out to the front, makes room, and reads once.
-fn more<R: Read>(input: &mut R, buf: &mut [u8], lines: Lines) -> Lines
-    requires { Within lines × (65536 ≡ length buf.old) }
-    ensures { Within result }
-{
-    let kept = room(buf, lines.next, lines.filled);
-    if kept == buf.len() {
-        return Lines {
-            found: TOO_LONG,
-            start: 0,
-            end: kept,
-            next: 0,
-            filled: kept,
-            ended: true,
-            long: true,
-        };
-    }
-    let got = read_from(input, buf, kept);
-    Lines {
-        found: AT_LINE,
-        start: 0,
-        end: 0,
-        next: 0,
-        filled: kept + got,
-        ended: got == 0,
-        long: false,
+    // Brings what is not handed out to the front, makes room, and reads once.
+    fn read_on(&mut self) {
+        let kept = room(&mut self.buf, self.next, self.filled);
+        self.next = 0;
+        self.filled = kept;
+        if kept == self.buf.len() {
+            self.state = State::TooLong;
+            return;
+        }
+        let got = self.input.read(&mut self.buf[kept..]).unwrap_or(0);
+        self.filled = kept + got;
+        if got == 0 {
+            self.state = State::Ended;
+        }
     }
 }
 
 // Moves the bytes from `from` up to `to` to the front, and answers how many are there; a line that fills
 // the buffer is made shorter.
 fn room(buf: &mut [u8], from: usize, to: usize) -> usize
-    requires { (from ≤ to) × (to ≤ length buf.old) × (65536 ≡ length buf.old) }
-    ensures { (result ≤ 65536) × (length buf.new ≡ length buf.old) }
+    requires { (from ≤ to) × (to ≤ length buf.old) × (0 < length buf.old) }
+    ensures { (result ≤ length buf.old) × (length buf.new ≡ length buf.old) }
 {
     let kept = to - from;
     if kept < buf.len() {
-        shift(buf, from, to);
+        buf.copy_within(from..to, 0);
         return kept;
     }
     squeeze(buf)
-}
-
-// One read into buf from `at` on.
-fn read_from<R: Read>(input: &mut R, buf: &mut [u8], at: usize) -> usize
-    requires { at ≤ length buf.old }
-    ensures { at + result ≤ length buf.old }
-{
-    match input.read(&mut buf[at..]) {
-        Ok(got) => got,
-        Err(_) => 0,
-    }
-}
-
-fn shift(buf: &mut [u8], from: usize, to: usize)
-    requires { (from ≤ to) × (to ≤ length buf.old) }
-    ensures { length buf.new ≡ length buf.old }
-{
-    let mut i = from;
-    while i < to {
-        buf[i - from] = buf[i];
-        i += 1;
-    }
 }
 
 // Makes the unfinished line that fills buf shorter, with the same meaning.
@@ -190,24 +131,22 @@ fn squeeze(buf: &mut [u8]) -> usize
     if buf[0] == b'#' {
         return 1;
     }
-    let mut w = 0;
-    let mut i = 0;
-    let mut before = 0u8;
+    let mut kept = 0;
+    let mut before = 0;
     let end = buf.len() - 1;
-    while i < end {
+    for i in 0..end {
         let byte = buf[i];
         if !leads(before, byte, buf[i + 1]) {
-            buf[w] = byte;
-            w += 1;
+            buf[kept] = byte;
+            kept += 1;
             before = byte;
         }
-        i += 1;
     }
-    buf[w] = buf[end];
-    w + 1
+    buf[kept] = buf[end];
+    kept + 1
 }
 
 // Whether a byte is a zero that leads a number: it follows a space, and a digit follows it.
 fn leads(before: u8, byte: u8, after: u8) -> bool {
-    before == b' ' && byte == b'0' && after >= b'0' && after <= b'9'
+    before == b' ' && byte == b'0' && is_digit(after)
 }

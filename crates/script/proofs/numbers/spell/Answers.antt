@@ -1,6 +1,6 @@
 -- `script::numbers::spell`: A digit of several and the first digit of all are a law each.
 -- Assumes nothing.
-use Rattle.std.proofs.Common.{arith, ◌≤◌}
+use Rattle.std.proofs.Common.{arith, refl, ◌≤◌}
 use Rattle.script.proofs.Digits.{places, tenth, more, last}
 use Rattle.script.proofs.numbers.spell.Goals as goal
 
@@ -10,8 +10,8 @@ loop-rest-preserved c =
       omega arith,
       omega arith,
       tenth _ _ c.loop-rest.invariant.0 c.loop-rest.invariant.2,
-      more _ _ _ _ _ c.loop-rest.invariant.0 (omega arith) (omega arith) c.glyph.ensures c.loop-rest.invariant.3,
+      more _ _ _ _ _ c.loop-rest.invariant.0 (omega arith) (omega arith) refl c.loop-rest.invariant.3,
     )
 
 pub returns : goal.returns
-returns c = (omega arith, last _ _ _ _ _ c.loop-rest.invariant.0 (omega arith) (omega arith) c.glyph-2.ensures c.loop-rest.invariant.3)
+returns c = (omega arith, last _ _ _ _ _ c.loop-rest.invariant.0 (omega arith) (omega arith) refl c.loop-rest.invariant.3)

@@ -1,7 +1,7 @@
 -- `script::parts::tail_of`: A token more, the lent count, and the end of the line are a law each.
 -- Assumes nothing.
 use Rattle.std.proofs.Common.{arith, ◌∙◌, sym, refl}
-use Rattle.script.proofs.Grammar.{tail_small, tail_lent, numbers-lent, tail_number, numbers_number, tail_not, tail_many, tail_end, numbers-end, small_of, not_good, stored_number, all_stored, lent_stored}
+use Rattle.script.proofs.Grammar.{tail_small, tail_lent, numbers-lent, tail_number, numbers_number, tail_not, tail_many, tail_end, numbers-end, small_of, stored_number, all_stored, lent_stored}
 use Rattle.script.proofs.parts.tail_of.Goals as goal
 
 pub loop-at-init : goal.loop-at-init
@@ -17,23 +17,13 @@ returns-then-is_lent c =
       numbers_after = lent_stored _ _ _ _ _ _ c.with_lent.ensures (numbers-lent _ _ _ c.loop-at-test.true c.token_end-end.ensures.2 s) c.loop-at.invariant.numbers;
     }
 
-pub returns-in_default : goal.returns-in_default
-returns-in_default c =
-    let q = c.no_tail.ensures ∙ sym (tail_not _ _ _ c.loop-at-test.true c.token_end-end.ensures.2 _ (sym c.if-is_lent.false ∙ c.is_lent.ensures) c.in_default.ensures) ∙ c.loop-at.invariant.tail in
-    record {
-      count_bound = small_of _ _ q (tail_small 0 _ (omega arith));
-      value = q;
-      numbers_after = λ g. absurd (not_good _ c.no_tail.ensures g);
-    }
+pub returns-in_err-n-clause-value : goal.returns-in_err-n-clause-value
+returns-in_err-n-clause-value c =
+    c.from_residual.ensures ∙ sym (tail_not _ _ _ c.loop-at-test.true c.token_end-end.ensures.2 _ (sym c.if-is_lent.false ∙ c.is_lent.ensures) c.in_err-n.ensures) ∙ c.loop-at.invariant.tail
 
-pub returns-then-count-ge2048 : goal.returns-then-count-ge2048
-returns-then-count-ge2048 c =
-    let q = c.no_tail-then-count-ge2048.ensures ∙ sym (tail_many _ _ _ c.loop-at-test.true c.token_end-end.ensures.2 _ _ (sym c.if-is_lent.false ∙ c.is_lent.ensures) c.in-Is.ensures c.if-count-ge2048.true) ∙ c.loop-at.invariant.tail in
-    record {
-      count_bound = small_of _ _ q (tail_small 0 _ (omega arith));
-      value = q;
-      numbers_after = λ g. absurd (not_good _ c.no_tail-then-count-ge2048.ensures g);
-    }
+pub returns-then-count-ge2048-clause-value : goal.returns-then-count-ge2048-clause-value
+returns-then-count-ge2048-clause-value c =
+    sym (tail_many _ _ _ c.loop-at-test.true c.token_end-end.ensures.2 _ _ (sym c.if-is_lent.false ∙ c.is_lent.ensures) c.in_ok-n.ensures c.if-count-ge2048.true) ∙ c.loop-at.invariant.tail
 
 pub loop-at-preserved : goal.loop-at-preserved
 loop-at-preserved c =
@@ -41,13 +31,13 @@ loop-at-preserved c =
     record {
       within = omega arith;
       few = omega arith;
-      tail = sym (tail_number _ _ _ c.loop-at-test.true c.token_end-end.ensures.2 _ _ s c.in-Is.ensures c.if-count-ge2048.false) ∙ c.loop-at.invariant.tail;
-      numbers = stored_number c.loop-at.numbers c.loop-at.count _ _ _ _ (omega arith) (numbers_number _ _ _ c.loop-at-test.true c.token_end-end.ensures.2 _ s c.in-Is.ensures) c.loop-at.invariant.numbers;
+      tail = sym (tail_number _ _ _ c.loop-at-test.true c.token_end-end.ensures.2 _ _ s c.in_ok-n.ensures c.if-count-ge2048.false) ∙ c.loop-at.invariant.tail;
+      numbers = stored_number c.loop-at.numbers c.loop-at.count _ _ _ _ (omega arith) (numbers_number _ _ _ c.loop-at-test.true c.token_end-end.ensures.2 _ s c.in_ok-n.ensures) c.loop-at.invariant.numbers;
     }
 
-pub returns : goal.returns
-returns c = record {
-  count_bound = (omega arith, omega arith);
-  value = sym (tail_end _ _ _ c.loop-at-test.false) ∙ c.loop-at.invariant.tail;
-  numbers_after = λ g. all_stored c.loop-at.numbers _ _ c.loop-at.count (numbers-end c.args.line.now c.loop-at.at c.loop-at-test.false) c.loop-at.invariant.numbers;
-}
+pub returns-clause-value : goal.returns-clause-value
+returns-clause-value c = sym (tail_end _ _ _ c.loop-at-test.false) ∙ c.loop-at.invariant.tail
+
+pub returns-clause-numbers_after : goal.returns-clause-numbers_after
+returns-clause-numbers_after c =
+    all_stored c.loop-at.numbers _ _ c.loop-at.count (numbers-end c.args.line.now c.loop-at.at c.loop-at-test.false) c.loop-at.invariant.numbers
