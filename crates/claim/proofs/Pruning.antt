@@ -9,6 +9,9 @@ use lib.Dec.{ltb}
 use borrow.Author.Tests.{ltb-true, ltb-false}
 use lib.ListN.{length, take, drop, get_or, set, length-append, length-take, length-drop, length-set}
 use lib.Seq.{take-suc, take_all, take-nil, take-append-le, length-take-le}
+use Rattle.std.specs.Prelude.{Result, Ok, Err}
+use Rattle.std.specs.Result.{result_unwrap_or}
+use Rattle.types.specs.declared.refusal.Refusal.{Refusal}
 use Rattle.lists.specs.Lists.{concat_map}
 use Rattle.lists.proofs.Listing.{length-words}
 use Rattle.rules.specs.Numbers.{is_time}
@@ -18,20 +21,25 @@ use Rattle.rules.specs.Calls.{after_prune}
 use Rattle.ledger.specs.declared.Ledger.{Ledger}
 use Rattle.ledger.specs.declared.Done.{Done}
 use Rattle.ledger.specs.Contents.{contents, Held}
-use Rattle.ledger.specs.Meets.{Meets, written}
+use Rattle.ledger.specs.Meets.{Meets, answers_in, written}
 use Rattle.claim.specs.Series.{all_counts, Series}
 use Rattle.claim.proofs.Writing.{lent-rest, two_behind}
 use Rattle.claim.proofs.InTurn.{prunes-append, reports-append, words_append, fallen-append, counts-append, count-size, fallen_split, reports-few, prune-done}
 
+-- the answers of a call, with those that stand for none
+pub answers_or : (s : Result (List ℕ) Refusal) → result_unwrap_or s (0 ∷ 0 ∷ 0 ∷ []) ≡ answers_in s
+answers_or (Ok ns) = refl
+answers_or (Err r) = refl
+
 -- what a prune says where the clock is a time and there is room for all
 pub record Prunes (t : ℕ) (p : Plain) (lent after : List ℕ) (r : Done) : Type 0 where
-  pub answer : get_or r.answers 0 0 ≡ length (reports t p)
-  pub gone : get_or r.answers 1 0 ≡ length (fallen t p)
+  pub answer : get_or (answers_in r.said) 0 0 ≡ length (reports t p)
+  pub gone : get_or (answers_in r.said) 1 0 ≡ length (fallen t p)
   pub ledger : contents r.ledger ≡ pruned t p
   pub wrote : after ≡ written (concat_map report_words (reports t p)) lent
   pub held : Held r.ledger
-  pub few : get_or r.answers 0 0 ≤ get_or r.answers 1 0
-  pub size : get_or r.answers 1 0 + length (contents r.ledger).entries ≡ length p.entries
+  pub few : get_or (answers_in r.said) 0 0 ≤ get_or (answers_in r.said) 1 0
+  pub size : get_or (answers_in r.said) 1 0 + length (contents r.ledger).entries ≡ length p.entries
 
 pub goes_through : (t : ℕ) (p : Plain) (lent after : List ℕ) (r : Done) → is_time t ≡ true → 3 * length p.entries ≤ length lent →
     Meets (after_prune t (length lent) p) lent after r → Prunes t p lent after r
@@ -39,8 +47,8 @@ goes_through t p lent after r v h m =
     let few = reports-few t p in
     let split = fallen_split t p in
     let n = rw (prune-done t (length lent) p v (omega (arith, few, split))) at m in
-    let first : get_or r.answers 0 0 ≡ length (reports t p) = ap (λ ns. get_or ns 0 0) n.answers in
-    let second : get_or r.answers 1 0 ≡ length (fallen t p) = ap (λ ns. get_or ns 1 0) n.answers in
+    let first : get_or (answers_in r.said) 0 0 ≡ length (reports t p) = ap (λ ns. get_or ns 0 0) n.answers in
+    let second : get_or (answers_in r.said) 1 0 ≡ length (fallen t p) = ap (λ ns. get_or ns 1 0) n.answers in
     record {
       answer = first;
       gone = second;
@@ -87,8 +95,8 @@ pub going_on : (clocks : List ℕ) (start : Plain) (lent list lent_counts counts
     let rest = drop (3 * many) list in
     Prunes (get_or clocks i 0) (contents ledger) (take left rest) after r → next ≡ cond (ltb i k) r.ledger between →
     length after ≡ length (take left rest) →
-    Going clocks start lent (take (3 * many) list ++ (after ++ drop left rest)) lent_counts (set (set counts (2 * i) (get_or r.answers 0 0)) (2 * i + 1) (get_or r.answers 1 0)) r.ledger next
-    (gone + get_or r.answers 1 0) (many + get_or r.answers 0 0) (i + 1) k
+    Going clocks start lent (take (3 * many) list ++ (after ++ drop left rest)) lent_counts (set (set counts (2 * i) (get_or (answers_in r.said) 0 0)) (2 * i + 1) (get_or (answers_in r.said) 1 0)) r.ledger next
+    (gone + get_or (answers_in r.said) 1 0) (many + get_or (answers_in r.said) 0 0) (i + 1) k
 going_on clocks start lent list lent_counts counts ledger between gone many i k g h after r new t n size =
     let same = seam list after (3 * many) (omega (arith, g.few, g.fits, g.room)) size ∙ g.sized in
     let p : Plain = contents ledger in

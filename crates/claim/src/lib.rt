@@ -47,7 +47,7 @@ pub fn run_and_prune_from(
             made: false,
             fallen: 0,
             written: 0,
-            before: before,
+            before,
             between: before,
             after: before,
         };
@@ -59,9 +59,9 @@ pub fn run_and_prune_from(
         made: true,
         fallen: p.fallen,
         written: p.written,
-        before: before,
-        between: between,
-        after: after,
+        before,
+        between,
+        after,
     }
 }
 

@@ -10,7 +10,7 @@ use lists::slices::word_at;
 fn at_most(n: u64, limit: usize) -> usize
     ensures { result ≡ min n limit }
 {
-    if n < limit as u64 { n as usize } else { limit }
+    n.min(limit as u64) as usize
 }
 
 // The calls that the words hold, each given the ledger that the one before handed back and the front of the list as that one left it.
@@ -19,7 +19,7 @@ pub fn run_calls(start: Ledger, calls: &[u64], lent: &mut [u64]) -> Ledger
     ensures { Ran (decode (length lent.old) calls.now) (contents start) lent.old lent.new result }
 {
     let mut ledger = start;
-    let mut at: usize = 0;
+    let mut at = 0; // moved on by the words of each call
     while at < calls.len() {
         let kind = word_at(calls, at);
         let room = at_most(word_at(calls, at + 1), lent.len());

@@ -1,5 +1,5 @@
 // Prunes at each clock in turn.
-ghost use Rattle.std.specs.Prelude.{◌*◌, ◌≤◌, ◌<◌, ◌≡◌, true, cond, ◌&&◌, leb, length, get_or};
+ghost use Rattle.std.specs.Prelude.{◌*◌, ◌≤◌, ◌≡◌, true, ◌&&◌, leb, length};
 ghost use Rattle.lists.specs.Lists.{all};
 ghost use Rattle.rules.specs.Numbers.{is_time};
 ghost use Rattle.ledger.specs.Contents.{Held, contents};
@@ -11,29 +11,16 @@ use sweeps::prune::prune;
 use types::widths::{REPORT_WORDS, REPORTS_ROOM};
 use types::{Time, is_time};
 
-fn clock_at(clocks: &[u64], k: usize) -> Time
-    requires { k < length clocks.now }
-    ensures { result.0 ≡ get_or clocks.now k 0 }
-{
-    Time(clocks[k])
-}
-
 // Whether the clocks are times and never fall.
 fn is_nondecreasing(clocks: &[u64]) -> bool
     ensures { result ≡ steady 0 clocks.now }
 {
-    let mut last = Time(0);
-    let mut k: usize = 0;
-    while k < clocks.len() {
-        let clock = clock_at(clocks, k);
-        if clock.0 < last.0 {
+    let mut last = 0;
+    for clock in clocks {
+        if *clock < last || !is_time(*clock) {
             return false;
         }
-        if !is_time(clock.0) {
-            return false;
-        }
-        last = clock;
-        k += 1;
+        last = *clock;
     }
     true
 }
@@ -61,12 +48,6 @@ pub struct PrunedAll {
     pub ledger: Ledger,
 }
 
-fn either(is_new: bool, new: Ledger, old: Ledger) -> Ledger
-    ensures { result ≡ cond is_new new old }
-{
-    if is_new { new } else { old }
-}
-
 // A prune at each clock in turn, the reports one prune's after the other's, and the numbers of each prune. The ledger after the first k is
 // kept beside.
 pub fn prune_all(
@@ -81,27 +62,29 @@ pub fn prune_all(
 {
     let mut ledger = start;
     let mut between = start;
-    let mut fallen: u64 = 0;
-    let mut written: usize = 0;
-    let mut i: usize = 0;
-    while i < clocks.len() {
-        let clock = clock_at(clocks, i);
+    let mut fallen = 0;
+    let mut written = 0;
+    for i in 0..clocks.len() {
+        let clock = Time(clocks[i]);
         let at = REPORT_WORDS * written;
         let done = prune(ledger, clock, &mut reports[at..]);
-        let reported = done.answers[0];
-        let gone = done.answers[1];
+        let said = done.said.unwrap_or([0; 3]); // never refused: a time, and room enough
+        let reported = said[0];
+        let gone = said[1];
         counts[2 * i] = reported;
         counts[2 * i + 1] = gone;
         ledger = done.ledger;
-        between = either(i < k, ledger, between);
+        let is_early = i < k;
+        if is_early {
+            between = ledger;
+        }
         fallen += gone;
         written += reported as usize;
-        i += 1;
     }
     PrunedAll {
-        fallen: fallen,
-        written: written,
-        between: between,
-        ledger: ledger,
+        fallen,
+        written,
+        between,
+        ledger,
     }
 }
