@@ -3,7 +3,7 @@
 // be so many that an array for them would cost more than a pass that counts them: they are written at once.
 #![tactic(auto)]
 
-ghost use Rattle.std.specs.Prelude.{◌≡◌, ◌&&◌, ◌+◌, ◌*◌, ◌≤◌, ◌<◌, ◌^◌, ◌++◌, eqb, length};
+ghost use Rattle.std.specs.Prelude.{◌≡◌, ◌&&◌, ◌+◌, ◌*◌, ◌≤◌, ◌<◌, ◌^◌, ◌++◌, eqb, length, ℕ, List, Bool, Option, Some};
 ghost use Rattle.std.proofs.lemmas.List.Edits.{sets};
 ghost use Rattle.rules.specs.Words.{transaction_size, transaction_words};
 ghost use Rattle.types.specs.Transactions.{number_of};
@@ -15,11 +15,15 @@ ghost use Rattle.entry.specs.Entry.{plain_entry, Fits};
 ghost use Rattle.ledger.specs.Contents.{contents, Held};
 ghost use Rattle.readings.specs.Reads.{Reads};
 ghost use Rattle.entry_lists.specs.Tests.{is_asking, asks_of, is_past, holds_id};
-ghost use Rattle.entry_lists.specs.Runs.{Ran};
+ghost use Rattle.entry_lists.specs.Runs.{Ran, Picks, item_words};
+ghost use Rattle.std.specs.Fn.{FnReturnsAt};
+ghost use Rattle.rules.specs.Plain as plain;
+ghost use Rattle.lists.specs.Lists.{keep};
 
 use entry::{Certificate, Entry};
 use ledger::Ledger;
 use readings::reply::list;
+use std::convert::AsSlice;
 use types::refusal::Refusal;
 use types::widths::{ISSUER_WORDS, ISSUERS_ROOM, QUESTION_WORDS, TERM_WORDS, TERMS_ROOM};
 use types::{Shard, Time, Transaction};
@@ -121,16 +125,26 @@ fn is_past(e: &Entry, validity: u64, time: Time) -> bool
     !e.part.is_settling() && e.at <= time && is_held
 }
 
-fn gather_past(ledger: &Ledger, time: Time, words: &mut [u64; TERMS_ROOM]) -> usize
-    requires { Held ledger.now × (length words.old ≡ term_room) }
-    ensures { Ran term_words term_size (past_deadline time.0 (contents ledger.now)) words.old 0 words.new result }
+// The items, of so many words each, of the entries of which `others` gives the words behind the transaction, one behind the other from
+// the front on; how many they are. The ledger is lent: handed over it would be copied once more for each list.
+fn gather<R: AsSlice<u64> + Copy, F: Fn(&Entry) -> Option<R>>(
+    ledger: &Ledger,
+    others: F,
+    size: usize,
+    words: &mut [u64],
+) -> usize
+    requires held { Held ledger.now }
+    requires callable { (e : _) → Fits e.now → GoodEntry ledger.now.local.0 (plain_entry e.now) → F.pre others e }
+    requires sizes { (e : _) (r : R) → F.post others e (Some r) → length (R.items r) + 1 ≡ size }
+    requires room { 48 * size ≤ length words.old }
+    ensures few { result ≤ 48 }
+    ensures items { (p : plain.Entry → Bool) (row : plain.Entry → List ℕ) → ((x : plain.Entry) → length (item_words row x) ≡ size) → Picks R.items (FnReturnsAt F.Fn others) ledger.now.local.0 p row → Ran (item_words row) size (keep p (contents ledger.now).entries) words.old 0 words.new result }
 {
     let mut count = 0;
     for slot in &ledger.roster.slots[..ledger.roster.len] {
         let e = &ledger.entries[*slot];
-        if is_past(e, ledger.validity, time) {
-            let others = [e.at.0, e.end.0, e.anchor.0, e.charge];
-            put_item(e.tx, &others, words, TERM_WORDS * count);
+        if let Some(others) = others(e) {
+            put_item(e.tx, others.as_slice(), words, size * count);
             count += 1;
         }
     }
@@ -146,7 +160,11 @@ pub fn past_deadline(ledger: Ledger, time: Time, lent: &mut [u64]) -> Result<u64
         return Err(Refusal::NoTime);
     }
     let mut words = [0; TERMS_ROOM];
-    let n = gather_past(&ledger, time, &mut words);
+    let validity = ledger.validity;
+    let others = |e: &Entry| {
+        is_past(e, validity, time).then_some([e.at.0, e.end.0, e.anchor.0, e.charge])
+    };
+    let n = gather(&ledger, others, TERM_WORDS, &mut words);
     list(&words, TERM_WORDS * n, n, lent)
 }
 
@@ -169,27 +187,14 @@ fn issues_id(e: &Entry, local: Shard, id: u64) -> bool
         .any(|(from, held)| is_crossing(Shard(*from), *held, local, id))
 }
 
-fn gather_issuers(ledger: &Ledger, id: u64, words: &mut [u64; ISSUERS_ROOM]) -> usize
-    requires { Held ledger.now × (length words.old ≡ issuer_room) }
-    ensures { Ran issuer_words issuer_size (issuers_of id (contents ledger.now)) words.old 0 words.new result }
-{
-    let mut count = 0;
-    for slot in &ledger.roster.slots[..ledger.roster.len] {
-        let e = &ledger.entries[*slot];
-        if issues_id(e, ledger.local, id) {
-            put_item(e.tx, &[e.end.0], words, ISSUER_WORDS * count);
-            count += 1;
-        }
-    }
-    count
-}
-
 // Those that issued this very id. An edge from local that has the id is in the index under the id's key, which is thus not asked.
 pub fn issuers_of(ledger: Ledger, id: u64, lent: &mut [u64]) -> Result<u64, Refusal>
     requires { Held ledger }
     ensures { Reads (read (list_issuers id (length lent.old)) (contents ledger)) lent.old lent.new result }
 {
     let mut words = [0; ISSUERS_ROOM];
-    let n = gather_issuers(&ledger, id, &mut words);
+    let local = ledger.local;
+    let others = |e: &Entry| issues_id(e, local, id).then_some([e.end.0]);
+    let n = gather(&ledger, others, ISSUER_WORDS, &mut words);
     list(&words, ISSUER_WORDS * n, n, lent)
 }
