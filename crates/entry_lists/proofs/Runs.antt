@@ -73,12 +73,6 @@ module _ {A : Type 0} (words : A → List ℕ) (k : ℕ) (each : (x : A) → len
     ended rest e b h = record { wrote = rw e at h.same; end = omega (arith, rw e at h.some); room = b }
 
   -- a run from the front, written out
-  pub run-size : {items : List A} {before after : List ℕ} {n : ℕ} → Ran words k items before 0 after n → length after ≡ length before
-  run-size {items} {before} h = ap length h.wrote ∙ length-sets before (k * 0) (concat_map words items)
-
-  pub run_room : {items : List A} {before after : List ℕ} {n : ℕ} → Ran words k items before 0 after n → k * n ≤ length after
-  run_room h = omega (arith, h.room, run-size h)
-
   front : (items : List A) (before after : List ℕ) (n : ℕ) → Ran words k items before 0 after n → take (k * n) after ≡ concat_map words items
   front items before after n h =
       let all = concat_map words items in

@@ -1,6 +1,7 @@
 // Lists by transaction: questions, entries past their deadline, issuers of an id. The words of each are gathered in one pass over the
 // ledger, in an array that has room for all there can be, and then written out, or refused where the lent list is too short. Questions may
-// be so many that an array for them would cost more than a pass that counts them: they are written at once.
+// be so many that an array for them would cost more than a pass that counts them: they are counted, and then written at once. The helpers
+// are lent the ledger, so that none copies it.
 #![tactic(auto)]
 
 ghost use Rattle.std.specs.Prelude.{◌≡◌, ◌&&◌, ◌+◌, ◌*◌, ◌≤◌, ◌<◌, ◌^◌, ◌++◌, eqb, length, ℕ, List, Bool, Option, Some};
@@ -28,14 +29,14 @@ use types::refusal::Refusal;
 use types::widths::{ISSUER_WORDS, ISSUERS_ROOM, QUESTION_WORDS, TERM_WORDS, TERMS_ROOM};
 use types::{Shard, Time, Transaction};
 
-// An item put down at a place: the words of its transaction, and then the others.
-fn put_item(tx: Transaction, others: &[u64], words: &mut [u64], at: usize)
-    requires { at + transaction_size + length others.now ≤ length words.old }
-    ensures { words.new ≡ sets words.old at (transaction_words (number_of tx) ++ others.now) }
+// An item put down at a place: the words of its transaction, and then a row of others.
+fn put_item(tx: Transaction, row: &[u64], words: &mut [u64], at: usize)
+    requires { at + transaction_size + length row.now ≤ length words.old }
+    ensures { words.new ≡ sets words.old at (transaction_words (number_of tx) ++ row.now) }
 {
     tx.put(words, at);
     let from = at + 1;
-    words[from..from + others.len()].copy_from_slice(others);
+    words[from..from + row.len()].copy_from_slice(row);
 }
 
 // Whether the entry asks: an uncovered core.
@@ -57,8 +58,8 @@ fn put_questions(e: &Entry, local: Shard, from: usize, words: &mut [u64]) -> usi
     for shard in &e.core[..n] {
         if *shard != local.0 {
             let key = types::cell_key(e.tx, e.end, Shard(*shard));
-            let others = [*shard, key, e.at.0, e.end.0];
-            put_item(e.tx, &others, words, QUESTION_WORDS * count);
+            let row = [*shard, key, e.at.0, e.end.0];
+            put_item(e.tx, &row, words, QUESTION_WORDS * count);
             count += 1;
         }
     }
@@ -66,14 +67,16 @@ fn put_questions(e: &Entry, local: Shard, from: usize, words: &mut [u64]) -> usi
 }
 
 // How many questions the entry asks. A core has local in it, of which nothing is asked.
+#[tactic(auto, using(crate::proofs::ByEntry::asks_some, crate::proofs::ByEntry::asks_all, crate::proofs::ByEntry::asks_none))]
 fn asks(e: &Entry, local: Shard) -> usize
     requires { Fits e.now × GoodEntry local.0 (plain_entry e.now) }
     ensures { (result ≡ length (questions_of local.0 (plain_entry e.now))) × (result ≤ 8) }
 {
     if is_asking(e) {
-        return e.core_len as usize - 1;
+        e.core_len as usize - 1
+    } else {
+        0
     }
-    0
 }
 
 // How many questions there are.
@@ -125,26 +128,26 @@ fn is_past(e: &Entry, validity: u64, time: Time) -> bool
     !e.part.is_settling() && e.at <= time && is_held
 }
 
-// The items, of so many words each, of the entries of which `others` gives the words behind the transaction, one behind the other from
-// the front on; how many they are. The ledger is lent: handed over it would be copied once more for each list.
+// The items of the entries that `row_of` gives a row of, the words behind an item's transaction, put one behind the other from the front
+// on, so many words each; how many they are.
 fn gather<R: AsSlice<u64> + Copy, F: Fn(&Entry) -> Option<R>>(
     ledger: &Ledger,
-    others: F,
+    row_of: F,
     size: usize,
     words: &mut [u64],
 ) -> usize
     requires held { Held ledger.now }
-    requires callable { (e : _) → Fits e.now → GoodEntry ledger.now.local.0 (plain_entry e.now) → F.pre others e }
-    requires sizes { (e : _) (r : R) → F.post others e (Some r) → length (R.items r) + 1 ≡ size }
-    requires room { 48 * size ≤ length words.old }
-    ensures few { result ≤ 48 }
-    ensures items { (p : plain.Entry → Bool) (row : plain.Entry → List ℕ) → ((x : plain.Entry) → length (item_words row x) ≡ size) → Picks R.items (FnReturnsAt F.Fn others) ledger.now.local.0 p row → Ran (item_words row) size (keep p (contents ledger.now).entries) words.old 0 words.new result }
+    requires callable { (e : _) → Fits e.now → GoodEntry ledger.now.local.0 (plain_entry e.now) → F.pre row_of e }
+    requires sizes { (e : _) (r : R) → F.post row_of e (Some r) → length (R.items r) + 1 ≡ size }
+    requires room { max_entries * size ≤ length words.old }
+    ensures few { result ≤ max_entries }
+    ensures items { (p : plain.Entry → Bool) (row : plain.Entry → List ℕ) → ((x : plain.Entry) → length (item_words row x) ≡ size) → Picks R.items (FnReturnsAt F.Fn row_of) ledger.now.local.0 p row → Ran (item_words row) size (keep p (contents ledger.now).entries) words.old 0 words.new result }
 {
     let mut count = 0;
     for slot in &ledger.roster.slots[..ledger.roster.len] {
         let e = &ledger.entries[*slot];
-        if let Some(others) = others(e) {
-            put_item(e.tx, others.as_slice(), words, size * count);
+        if let Some(row) = row_of(e) {
+            put_item(e.tx, row.as_slice(), words, size * count);
             count += 1;
         }
     }
@@ -159,12 +162,12 @@ pub fn past_deadline(ledger: Ledger, time: Time, lent: &mut [u64]) -> Result<u64
     if !types::is_time(time.0) {
         return Err(Refusal::NoTime);
     }
-    let mut words = [0; TERMS_ROOM];
     let validity = ledger.validity;
-    let others = |e: &Entry| {
+    let row_of = |e: &Entry| {
         is_past(e, validity, time).then_some([e.at.0, e.end.0, e.anchor.0, e.charge])
     };
-    let n = gather(&ledger, others, TERM_WORDS, &mut words);
+    let mut words = [0; TERMS_ROOM]; // with a count beside: there is no heap
+    let n = gather(&ledger, row_of, TERM_WORDS, &mut words);
     list(&words, TERM_WORDS * n, n, lent)
 }
 
@@ -192,9 +195,9 @@ pub fn issuers_of(ledger: Ledger, id: u64, lent: &mut [u64]) -> Result<u64, Refu
     requires { Held ledger }
     ensures { Reads (read (list_issuers id (length lent.old)) (contents ledger)) lent.old lent.new result }
 {
-    let mut words = [0; ISSUERS_ROOM];
     let local = ledger.local;
-    let others = |e: &Entry| issues_id(e, local, id).then_some([e.end.0]);
-    let n = gather(&ledger, others, ISSUER_WORDS, &mut words);
+    let row_of = |e: &Entry| issues_id(e, local, id).then_some([e.end.0]);
+    let mut words = [0; ISSUERS_ROOM]; // with a count beside: there is no heap
+    let n = gather(&ledger, row_of, ISSUER_WORDS, &mut words);
     list(&words, ISSUER_WORDS * n, n, lent)
 }

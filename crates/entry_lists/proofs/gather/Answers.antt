@@ -12,8 +12,8 @@ use Rattle.entry_lists.proofs.Runs.{passed_by, put_one, ended, within}
 use Rattle.entry_lists.proofs.gather.Goals as goal
 use Rattle.entry_lists.proofs.gather.Goals.{in-Some, in_default}
 
-pub others-requires : goal.others-requires
-others-requires g c =
+pub row_of-requires : goal.row_of-requires
+row_of-requires g c =
     let t = at_turn c.args.ledger.now c.requires.held c.loop-slot.slot-index (omega arith) in
     c.requires.callable _ (t.fits _) (t.good _)
 
@@ -24,18 +24,18 @@ loop-slot-preserved g c =
     let a = c.args.ledger.now in
     let size = c.args.size in
     let t = at_turn a c.requires.held l.slot-index (omega arith) in
-    elim c.match-others.branch [
+    elim c.match-row_of.branch [
       | in-Some w ↦ rw (w.count-is, w.words-is) (
         omega (arith, l.invariant.0),
         λ p row each q. (
-          let r = rw w.in-Some.is at (q _ _ (t.fits _) (t.good _) (says_at g.F.Fn c.others.ensures refl)) in
+          let r = rw w.in-Some.is at (q _ _ (t.fits _) (t.good _) (says_at g.F.Fn c.row_of.ensures refl)) in
           put_one (item_words row) size each _ _ _ _ _ (next-kept p _ _ _ (t.next _) r.0) (omega arith) (rw (w.as_slice.ensures ∙ r.1) at w.put_item.ensures) (l.invariant.1 p row each q)
         )
       )
       | in_default w ↦ rw (w.count-is, w.words-is) (
         omega (arith, l.invariant.0),
         λ p row each q. (
-          let r = rw w.in_default.is at (q _ _ (t.fits _) (t.good _) (says_at g.F.Fn c.others.ensures refl)) in
+          let r = rw w.in_default.is at (q _ _ (t.fits _) (t.good _) (says_at g.F.Fn c.row_of.ensures refl)) in
           passed_by (item_words row) size each _ _ _ (next-left p _ _ _ (t.next _) r) (omega arith) (l.invariant.1 p row each q)
         )
       )

@@ -13,5 +13,5 @@ invariant-loop-slot g l =
     let es = entries_of l.ledger in
     (l.count ≤ l.slot-index)
     × ((p : plain.Entry → Bool) (row : plain.Entry → List ℕ) (each : (x : plain.Entry) → length (item_words row x) ≡ l.size) →
-    Picks g.R.AsSlice.items (FnReturnsAt g.F.Fn l.others) l.ledger.local.0 p row →
+    Picks g.R.AsSlice.items (FnReturnsAt g.F.Fn l.row_of) l.ledger.local.0 p row →
     Sofar (item_words row) l.size each (keep p es) l.initial.words 0 (keep p (drop l.slot-index es)) l.words l.count l.slot-index)

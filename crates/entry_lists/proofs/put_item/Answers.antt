@@ -4,4 +4,4 @@ use Rattle.entry_lists.proofs.Runs.{words_put}
 use Rattle.entry_lists.proofs.put_item.Goals as goal
 
 pub returns : goal.returns
-returns c = words_put c.args.words.now _ _ _ c.args.at c.args.others.now _ c.put.ensures c.copy_from_slice.ensures.after (omega arith) (omega arith)
+returns c = words_put c.args.words.now _ _ _ c.args.at c.args.row.now _ c.put.ensures c.copy_from_slice.ensures.after (omega arith) (omega arith)
