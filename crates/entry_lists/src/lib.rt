@@ -30,6 +30,7 @@ use types::widths::{ISSUER_WORDS, ISSUERS_ROOM, QUESTION_WORDS, TERM_WORDS, TERM
 use types::{Shard, Time, Transaction};
 
 // An item put down at a place: the words of its transaction, and then a row of others.
+#[tactic(auto, using(crate::proofs::Runs::words_put))]
 fn put_item(tx: Transaction, row: &[u64], words: &mut [u64], at: usize)
     requires { at + transaction_size + length row.now ≤ length words.old }
     ensures { words.new ≡ sets words.old at (transaction_words (number_of tx) ++ row.now) }
