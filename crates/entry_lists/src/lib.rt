@@ -163,9 +163,8 @@ pub fn past_deadline(ledger: Ledger, time: Time, lent: &mut [u64]) -> Result<u64
     if !types::is_time(time.0) {
         return Err(Refusal::NoTime);
     }
-    let validity = ledger.validity;
     let row_of = |e: &Entry| {
-        is_past(e, validity, time).then_some([e.at.0, e.end.0, e.anchor.0, e.charge])
+        is_past(e, ledger.validity, time).then_some([e.at.0, e.end.0, e.anchor.0, e.charge])
     };
     let mut words = [0; TERMS_ROOM]; // with a count beside: there is no heap
     let n = gather(&ledger, row_of, TERM_WORDS, &mut words);
@@ -196,8 +195,7 @@ pub fn issuers_of(ledger: Ledger, id: u64, lent: &mut [u64]) -> Result<u64, Refu
     requires { Held ledger }
     ensures { Reads (read (list_issuers id (length lent.old)) (contents ledger)) lent.old lent.new result }
 {
-    let local = ledger.local;
-    let row_of = |e: &Entry| issues_id(e, local, id).then_some([e.end.0]);
+    let row_of = |e: &Entry| issues_id(e, ledger.local, id).then_some([e.end.0]);
     let mut words = [0; ISSUERS_ROOM]; // with a count beside: there is no heap
     let n = gather(&ledger, row_of, ISSUER_WORDS, &mut words);
     list(&words, ISSUER_WORDS * n, n, lent)
