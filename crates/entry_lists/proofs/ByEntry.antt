@@ -135,12 +135,14 @@ next_silent local x l m e h = rw (e, h)
 pub asks_none : (local : ℕ) (x : plain.Entry) → is_asking x ≡ false → length (questions_of local x) ≡ 0
 asks_none local x h = rw h
 
+pub asks_some : (local : ℕ) (e : Entry) → Fits e → GoodEntry local (plain_entry e) → is_asking (plain_entry e) ≡ true → 1 ≤ e.core_len
+asks_some local e f g h = omega (arith, asks_count local e f g h)
+
 pub asks_all : (local : ℕ) (e : Entry) → Fits e → GoodEntry local (plain_entry e) → is_asking (plain_entry e) ≡ true →
-    (1 ≤ e.core_len) × ((e.core_len - 1 ≡ length (questions_of local (plain_entry e))) × (e.core_len - 1 ≤ 8))
+    (e.core_len - 1 ≡ length (questions_of local (plain_entry e))) × (e.core_len - 1 ≤ 8)
 asks_all local e f g h =
-    let n = asks_count local e f g h in
     let all : length (questions_of local (plain_entry e)) ≡ length (asks_of local (plain_entry e)) = rw h in
-    (omega (arith, n), (omega (arith, n, all), omega (arith, f.core_len)))
+    (omega (arith, asks_count local e f g h, all), omega (arith, f.core_len))
 
 pub asks_next : (local : ℕ) (x : plain.Entry) (l m : List plain.Entry) → l ≡ x ∷ m →
     length (concat_map (questions_of local) l) ≡ length (questions_of local x) + length (concat_map (questions_of local) m)

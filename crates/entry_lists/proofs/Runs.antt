@@ -2,7 +2,7 @@
 -- Assumes nothing.
 use Prim.Native.Nat.{ℕ, suc, ◌+◌, ◌*◌, ◌≤◌, ◌<◌}
 use mathlib.Core.Path.{◌≡◌, refl, sym, ap, ◌∙◌}
-use mathlib.Core.Bool.{true, false}
+use mathlib.Core.Bool.{Bool, true, false}
 use mathlib.Core.List.{List, [], ◌∷◌, ◌++◌, append-nil}
 use native.Mathlib.Numerals.{add-one}
 use native.Mathlib.Omega.{arith}
@@ -10,6 +10,7 @@ use borrow.Author.Tests.{lt-ltb, le-ltb}
 use lib.ListN.{length, take, drop, length-append, length-set}
 use borrow.Rule.Slice.PartMut.{put_mid}
 use Rattle.std.proofs.lemmas.Slice.{put_mid-paste}
+use Rattle.std.proofs.Math.Nat.{mul-le-mul_left}
 use Rattle.std.proofs.lemmas.List.{append_assoc}
 use Rattle.std.proofs.lemmas.List.Edits.{paste_all}
 use lib.Seq.{sets, sets-eq, length-sets, take_all, take-append-le}
@@ -19,7 +20,9 @@ use Rattle.lists.proofs.Listing.{length-words, sets_append, sets_front}
 use Rattle.rules.specs.Plain.{Plain}
 use Rattle.rules.specs.Outcome.{too_short}
 use Rattle.rules.specs.Readings.{listing}
-use Rattle.std.specs.Prelude.{Result, Ok, Err}
+use Rattle.std.specs.Prelude.{Result, Ok, Err, Option}
+use Rattle.std.specs.Bool.{then_some}
+use Rattle.std.specs.Option.{MatchOption}
 use Rattle.types.specs.declared.refusal.Refusal.{Refusal}
 use Rattle.types.specs.declared.refusal.Refusal.TheVariants.{ListShort}
 use Rattle.readings.specs.Reads.{Reads, Lists}
@@ -70,12 +73,6 @@ module _ {A : Type 0} (words : A → List ℕ) (k : ℕ) (each : (x : A) → len
     ended rest e b h = record { wrote = rw e at h.same; end = omega (arith, rw e at h.some); room = b }
 
   -- a run from the front, written out
-  pub run-size : {items : List A} {before after : List ℕ} {n : ℕ} → Ran words k items before 0 after n → length after ≡ length before
-  run-size {items} {before} h = ap length h.wrote ∙ length-sets before (k * 0) (concat_map words items)
-
-  pub run_room : {items : List A} {before after : List ℕ} {n : ℕ} → Ran words k items before 0 after n → k * n ≤ length after
-  run_room h = omega (arith, h.room, run-size h)
-
   front : (items : List A) (before after : List ℕ) (n : ℕ) → Ran words k items before 0 after n → take (k * n) after ≡ concat_map words items
   front items before after n h =
       let all = concat_map words items in
@@ -124,3 +121,12 @@ words_put l m ys t n others k p e b q =
     ∙ sym (sets-eq others m (n + 1) (omega (arith, size)))
     ∙ ap (λ i. sets m i others) (add-one n)
     ∙ ap (λ x. sets x (suc n) others) p
+
+-- so many items of one size are within the room for forty-eight
+pub within : (k n m : ℕ) → n ≤ 48 → 48 * k ≤ m → k * n ≤ m
+within k n m h b = omega (arith, mul-le-mul_left k h, b)
+
+-- what a closure says by a test, of a row
+pub picked : (b : Bool) (x : List ℕ) (r : Option (List ℕ)) → r ≡ then_some b x → MatchOption r (b ≡ false) (λ y. (b ≡ true) × (y ≡ x))
+picked true x r e = rw e (refl, refl)
+picked false x r e = rw e refl

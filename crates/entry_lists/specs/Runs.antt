@@ -1,10 +1,27 @@
 -- Items written one behind the other, so many words each.
-use Rattle.std.specs.Prelude.{ℕ, ◌+◌, ◌*◌, ◌≤◌, ◌≡◌, List, length}
+use Rattle.std.specs.Prelude.{ℕ, ◌+◌, ◌*◌, ◌≤◌, ◌≡◌, ◌++◌, Bool, true, false, Option, List, length}
+use Rattle.std.specs.Option.{MatchOption}
 use Rattle.std.proofs.lemmas.List.Edits.{sets}
 use Rattle.lists.specs.Lists.{concat_map}
+use Rattle.rules.specs.Plain as plain
+use Rattle.rules.specs.Plain.{transaction_of}
+use Rattle.rules.specs.Words.{transaction_words}
+use Rattle.rules.specs.Good.{GoodEntry}
+use Rattle.entry.specs.declared.Entry.{Entry}
+use Rattle.entry.specs.Entry.{plain_entry, Fits}
 
 -- behind the first from items, of k words each, these stand too; they are then so many
 pub record Ran {A : Type 0} (words : A → List ℕ) (k : ℕ) (items : List A) (before : List ℕ) (from : ℕ) (after : List ℕ) (to : ℕ) : Type 0 where
   pub wrote : after ≡ sets before (k * from) (concat_map words items)
   pub end : to ≡ from + length items
   pub room : k * to ≤ length before
+
+-- an item of an entry: the words of its transaction, and then a row of others
+abbrev pub item_words : (plain.Entry → List ℕ) → plain.Entry → List ℕ
+item_words row e = transaction_words (transaction_of e) ++ row e
+
+-- what is said of each entry that is good for a shard is its row, if it passes a test
+abbrev pub Picks : {R : Type 0} → (R → List ℕ) → (Entry → Option R → Type 0) → ℕ → (plain.Entry → Bool) → (plain.Entry → List ℕ) → Type 0
+Picks {R} items Says local p row =
+    (e : Entry) (r : Option R) → Fits e → GoodEntry local (plain_entry e) → Says e r →
+    MatchOption r (p (plain_entry e) ≡ false) (λ x. (p (plain_entry e) ≡ true) × (items x ≡ row (plain_entry e)))

@@ -1,9 +1,10 @@
 // Lists by transaction: questions, entries past their deadline, issuers of an id. The words of each are gathered in one pass over the
 // ledger, in an array that has room for all there can be, and then written out, or refused where the lent list is too short. Questions may
-// be so many that an array for them would cost more than a pass that counts them: they are written at once.
+// be so many that an array for them would cost more than a pass that counts them: they are counted, and then written at once. The helpers
+// are lent the ledger, so that none copies it.
 #![tactic(auto)]
 
-ghost use Rattle.std.specs.Prelude.{◌≡◌, ◌&&◌, ◌+◌, ◌*◌, ◌≤◌, ◌<◌, ◌^◌, ◌++◌, eqb, length};
+ghost use Rattle.std.specs.Prelude.{◌≡◌, ◌&&◌, ◌+◌, ◌*◌, ◌≤◌, ◌<◌, ◌^◌, ◌++◌, eqb, length, ℕ, List, Bool, Option, Some};
 ghost use Rattle.std.proofs.lemmas.List.Edits.{sets};
 ghost use Rattle.rules.specs.Words.{transaction_size, transaction_words};
 ghost use Rattle.types.specs.Transactions.{number_of};
@@ -15,23 +16,28 @@ ghost use Rattle.entry.specs.Entry.{plain_entry, Fits};
 ghost use Rattle.ledger.specs.Contents.{contents, Held};
 ghost use Rattle.readings.specs.Reads.{Reads};
 ghost use Rattle.entry_lists.specs.Tests.{is_asking, asks_of, is_past, holds_id};
-ghost use Rattle.entry_lists.specs.Runs.{Ran};
+ghost use Rattle.entry_lists.specs.Runs.{Ran, Picks, item_words};
+ghost use Rattle.std.specs.Fn.{FnReturnsAt};
+ghost use Rattle.rules.specs.Plain as plain;
+ghost use Rattle.lists.specs.Lists.{keep};
 
 use entry::{Certificate, Entry};
 use ledger::Ledger;
 use readings::reply::list;
+use std::convert::AsSlice;
 use types::refusal::Refusal;
 use types::widths::{ISSUER_WORDS, ISSUERS_ROOM, QUESTION_WORDS, TERM_WORDS, TERMS_ROOM};
 use types::{Shard, Time, Transaction};
 
-// An item put down at a place: the words of its transaction, and then the others.
-fn put_item(tx: Transaction, others: &[u64], words: &mut [u64], at: usize)
-    requires { at + transaction_size + length others.now ≤ length words.old }
-    ensures { words.new ≡ sets words.old at (transaction_words (number_of tx) ++ others.now) }
+// An item put down at a place: the words of its transaction, and then a row of others.
+#[tactic(auto, using(crate::proofs::Runs::words_put))]
+fn put_item(tx: Transaction, row: &[u64], words: &mut [u64], at: usize)
+    requires { at + transaction_size + length row.now ≤ length words.old }
+    ensures { words.new ≡ sets words.old at (transaction_words (number_of tx) ++ row.now) }
 {
     tx.put(words, at);
     let from = at + 1;
-    words[from..from + others.len()].copy_from_slice(others);
+    words[from..from + row.len()].copy_from_slice(row);
 }
 
 // Whether the entry asks: an uncovered core.
@@ -53,8 +59,8 @@ fn put_questions(e: &Entry, local: Shard, from: usize, words: &mut [u64]) -> usi
     for shard in &e.core[..n] {
         if *shard != local.0 {
             let key = types::cell_key(e.tx, e.end, Shard(*shard));
-            let others = [*shard, key, e.at.0, e.end.0];
-            put_item(e.tx, &others, words, QUESTION_WORDS * count);
+            let row = [*shard, key, e.at.0, e.end.0];
+            put_item(e.tx, &row, words, QUESTION_WORDS * count);
             count += 1;
         }
     }
@@ -62,14 +68,16 @@ fn put_questions(e: &Entry, local: Shard, from: usize, words: &mut [u64]) -> usi
 }
 
 // How many questions the entry asks. A core has local in it, of which nothing is asked.
+#[tactic(auto, using(crate::proofs::ByEntry::asks_some, crate::proofs::ByEntry::asks_all, crate::proofs::ByEntry::asks_none))]
 fn asks(e: &Entry, local: Shard) -> usize
     requires { Fits e.now × GoodEntry local.0 (plain_entry e.now) }
     ensures { (result ≡ length (questions_of local.0 (plain_entry e.now))) × (result ≤ 8) }
 {
     if is_asking(e) {
-        return e.core_len as usize - 1;
+        e.core_len as usize - 1
+    } else {
+        0
     }
-    0
 }
 
 // How many questions there are.
@@ -121,16 +129,26 @@ fn is_past(e: &Entry, validity: u64, time: Time) -> bool
     !e.part.is_settling() && e.at <= time && is_held
 }
 
-fn gather_past(ledger: &Ledger, time: Time, words: &mut [u64; TERMS_ROOM]) -> usize
-    requires { Held ledger.now × (length words.old ≡ term_room) }
-    ensures { Ran term_words term_size (past_deadline time.0 (contents ledger.now)) words.old 0 words.new result }
+// The items of the entries that `row_of` gives a row of, the words behind an item's transaction, put one behind the other from the front
+// on, so many words each; how many they are.
+fn gather<R: AsSlice<u64> + Copy, F: Fn(&Entry) -> Option<R>>(
+    ledger: &Ledger,
+    row_of: F,
+    size: usize,
+    words: &mut [u64],
+) -> usize
+    requires held { Held ledger.now }
+    requires callable { (e : _) → Fits e.now → GoodEntry ledger.now.local.0 (plain_entry e.now) → F.pre row_of e }
+    requires sizes { (e : _) (r : R) → F.post row_of e (Some r) → length (R.items r) + 1 ≡ size }
+    requires room { max_entries * size ≤ length words.old }
+    ensures few { result ≤ max_entries }
+    ensures items { (p : plain.Entry → Bool) (row : plain.Entry → List ℕ) → ((x : plain.Entry) → length (item_words row x) ≡ size) → Picks R.items (FnReturnsAt F.Fn row_of) ledger.now.local.0 p row → Ran (item_words row) size (keep p (contents ledger.now).entries) words.old 0 words.new result }
 {
     let mut count = 0;
     for slot in &ledger.roster.slots[..ledger.roster.len] {
         let e = &ledger.entries[*slot];
-        if is_past(e, ledger.validity, time) {
-            let others = [e.at.0, e.end.0, e.anchor.0, e.charge];
-            put_item(e.tx, &others, words, TERM_WORDS * count);
+        if let Some(row) = row_of(e) {
+            put_item(e.tx, row.as_slice(), words, size * count);
             count += 1;
         }
     }
@@ -145,8 +163,11 @@ pub fn past_deadline(ledger: Ledger, time: Time, lent: &mut [u64]) -> Result<u64
     if !types::is_time(time.0) {
         return Err(Refusal::NoTime);
     }
-    let mut words = [0; TERMS_ROOM];
-    let n = gather_past(&ledger, time, &mut words);
+    let row_of = |e: &Entry| {
+        is_past(e, ledger.validity, time).then_some([e.at.0, e.end.0, e.anchor.0, e.charge])
+    };
+    let mut words = [0; TERMS_ROOM]; // with a count beside: there is no heap
+    let n = gather(&ledger, row_of, TERM_WORDS, &mut words);
     list(&words, TERM_WORDS * n, n, lent)
 }
 
@@ -169,27 +190,13 @@ fn issues_id(e: &Entry, local: Shard, id: u64) -> bool
         .any(|(from, held)| is_crossing(Shard(*from), *held, local, id))
 }
 
-fn gather_issuers(ledger: &Ledger, id: u64, words: &mut [u64; ISSUERS_ROOM]) -> usize
-    requires { Held ledger.now × (length words.old ≡ issuer_room) }
-    ensures { Ran issuer_words issuer_size (issuers_of id (contents ledger.now)) words.old 0 words.new result }
-{
-    let mut count = 0;
-    for slot in &ledger.roster.slots[..ledger.roster.len] {
-        let e = &ledger.entries[*slot];
-        if issues_id(e, ledger.local, id) {
-            put_item(e.tx, &[e.end.0], words, ISSUER_WORDS * count);
-            count += 1;
-        }
-    }
-    count
-}
-
 // Those that issued this very id. An edge from local that has the id is in the index under the id's key, which is thus not asked.
 pub fn issuers_of(ledger: Ledger, id: u64, lent: &mut [u64]) -> Result<u64, Refusal>
     requires { Held ledger }
     ensures { Reads (read (list_issuers id (length lent.old)) (contents ledger)) lent.old lent.new result }
 {
-    let mut words = [0; ISSUERS_ROOM];
-    let n = gather_issuers(&ledger, id, &mut words);
+    let row_of = |e: &Entry| issues_id(e, ledger.local, id).then_some([e.end.0]);
+    let mut words = [0; ISSUERS_ROOM]; // with a count beside: there is no heap
+    let n = gather(&ledger, row_of, ISSUER_WORDS, &mut words);
     list(&words, ISSUER_WORDS * n, n, lent)
 }

@@ -1,12 +1,27 @@
 -- What was gathered is written out.
-use Rattle.std.proofs.Common.{refl, ap, not, sym, ◌∙◌}
+use Rattle.std.proofs.Common.{refl, sym, ap, not, ◌∙◌, rules, tests, ◌∷◌, [], ltb-true}
+use Rattle.rules.specs.Plain as plain
 use Rattle.rules.specs.Readings.{past_deadline, term_words}
+use Rattle.entry.specs.Entry.{plain_entry}
 use Rattle.ledger.specs.Contents.{contents}
 use Rattle.readings.proofs.Looked.{goes_on}
-use Rattle.entry_lists.proofs.Runs.{reads-run}
+use Rattle.entry_lists.specs.Tests.{is_past}
+use Rattle.entry_lists.proofs.ByEntry.{validity-small}
+use Rattle.entry_lists.proofs.Runs.{reads-run, picked}
 use Rattle.entry_lists.proofs.past_deadline.Goals as goal
 
+pub gather-n-requires-clause-callable : goal.gather-n-requires-clause-callable
+unfolding plain_entry
+gather-n-requires-clause-callable c =
+    let v = validity-small c.args.ledger c.requires in
+    λ e f g. (let b = ltb-true _ _ g.terms.at in search (rules, v, b, f))
+
 pub returns : goal.returns
+unfolding contents past_deadline plain_entry
 returns c =
+    let a = c.args.ledger in
     let l = contents c.args.ledger in
-    reads-run term_words 5 (λ x. refl) (past_deadline c.args.time.0 l) _ _ _ l _ c.args.lent.now _ _ (goes_on _ 3 0 (ap not (sym c.is_time.ensures ∙ c.if-not-is_time.false))) c.gather_past-n.ensures c.list.ensures
+    let p = is_past a.validity c.args.time.0 in
+    let run = c.gather-n.ensures.items p (λ (e : plain.Entry). e.terms.at ∷ e.terms.end ∷ e.terms.anchor ∷ e.terms.charge ∷ []) (λ x. refl)
+    (λ e r f g s. picked (p (plain_entry e)) (e.at.0 ∷ e.end.0 ∷ e.anchor.0 ∷ e.charge ∷ []) r (search (rules, tests))) in
+    reads-run term_words 5 (λ x. refl) (past_deadline c.args.time.0 l) _ _ _ l _ c.args.lent.now _ _ (goes_on _ 3 0 (ap not (sym c.is_time.ensures ∙ c.if-not-is_time.false))) run c.list.ensures
