@@ -24,12 +24,8 @@ pub fn renew(ledger: &mut Ledger, words: &[u64], times: u64) -> Reply
     for _turn in 1..times {
         done = making::new(local, validity, core_span, leg_span);
     }
-    let answers = done.answers;
     *ledger = done.ledger;
-    Reply {
-        refused: done.refused,
-        answers,
-    }
+    done.said
 }
 
 // The call of a code as often as is said, and once at least: each time on the ledger that the last handed back and on the list filled anew.
@@ -40,10 +36,6 @@ pub fn apply(ledger: &mut Ledger, code: usize, words: &[u64], list: &mut [u64], 
     let kind = (code - NEW) as u64;
     list.fill(FILL);
     let done = changing::apply(*ledger, kind, words, list, times.max(1), FILL);
-    let answers = done.answers;
     *ledger = done.ledger;
-    Reply {
-        refused: done.refused,
-        answers,
-    }
+    done.said
 }

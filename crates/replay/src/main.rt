@@ -8,7 +8,6 @@ mod reading;
 mod replies;
 
 use calls::making;
-use replies::Reply;
 use script::calls::{DUMP, NEW, QUESTIONS};
 use script::{Line, Reader, Writer};
 use types::Shard;
@@ -45,9 +44,9 @@ fn main(rt: HostRuntime) {
         } else if code < QUESTIONS {
             changing::apply(&mut ledger, code, words, list, times)
         } else if code < DUMP {
-            reading::ask(&ledger, code, words, list, times)
+            reading::ask(&ledger, code, words, list, times).map(|answer| [answer, 0, 0])
         } else {
-            Reply::default()
+            Ok([0; 3])
         };
         replies::put_reply(&mut writer, call, reply, &ledger, list);
     }
