@@ -1,6 +1,6 @@
 -- What a line's call left, from what `dispatch` says of the call that was made on the list filled anew.
 -- Assumes nothing.
-use Prim.Native.Nat.{ℕ, zero, suc, ◌<◌, max}
+use Prim.Native.Nat.{ℕ, zero, suc, max}
 use mathlib.Core.Path.{◌≡◌, refl, ap, ◌∙◌}
 use mathlib.Core.List.{List}
 use native.Mathlib.Omega.{arith}
@@ -46,7 +46,3 @@ asked code words l was before list now r s f reads =
     let e : list ≡ filled was = filled_anew was list (f ∙ ap (λ n. replicate n fill_word) s) in
     let n : length list ≡ length was = ap length e ∙ length-map was (λ w. fill_word) in
     rw (n, e) at reads
-
--- some turn is made
-pub some_turn : (times : ℕ) → 0 < max times 1
-some_turn times = omega arith

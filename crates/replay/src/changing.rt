@@ -29,6 +29,7 @@ pub fn renew(ledger: &mut Ledger, words: &[u64], times: u64) -> Reply
 }
 
 // The call of a code as often as is said, and once at least: each time on the ledger that the last handed back and on the list filled anew.
+#[tactic(auto, using(crate::proofs::Replied::changed))]
 pub fn apply(ledger: &mut Ledger, code: usize, words: &[u64], list: &mut [u64], times: u64) -> Reply
     requires { Held ledger.old × (1 < code) }
     ensures { Changed code words.now times ledger.old list.old list.new result ledger.new }
