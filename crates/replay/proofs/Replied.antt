@@ -1,20 +1,20 @@
 -- What a line's call left, from what `dispatch` says of the call that was made on the list filled anew.
 -- Assumes nothing.
-use Prim.Native.Nat.{ℕ, zero, suc, ◌<◌, max}
+use Prim.Native.Nat.{ℕ, zero, suc, max}
 use mathlib.Core.Path.{◌≡◌, refl, ap, ◌∙◌}
-use mathlib.Core.List.{List, [], ◌∷◌}
+use mathlib.Core.List.{List}
 use native.Mathlib.Omega.{arith}
 use lib.ListN.{length, replicate, length-map}
 use Rattle.std.proofs.lemmas.Simd.{splat_is_map}
+use Rattle.std.specs.Prelude.{Result}
 use Rattle.rules.specs.Readings.{read}
+use Rattle.types.specs.declared.refusal.Refusal.{Refusal}
 use Rattle.ledger.specs.declared.Ledger.{Ledger}
 use Rattle.ledger.specs.declared.Done.{Done}
 use Rattle.ledger.specs.Contents.{contents, Held}
-use Rattle.readings.specs.declared.Answer.{Answer}
 use Rattle.readings.specs.Reads.{Reads}
 use Rattle.dispatch.specs.Changing.{Turned}
-use Rattle.replay.specs.declared.replies.Reply.{Reply}
-use Rattle.replay.specs.Lines.{turns_of, fill_word, filled, call_in, reading_in, Changed, Asked}
+use Rattle.replay.specs.Lines.{turns_of, fill_word, filled, Reply, call_in, reading_in, Changed, Asked}
 
 -- once at least
 once_at_least : (times : ℕ) → max times 1 ≡ turns_of times
@@ -27,7 +27,7 @@ filled_anew was list e = e ∙ splat_is_map was (length was) fill_word refl
 
 pub changed : (code : ℕ) (words : List ℕ) (times turns : ℕ) (l : Ledger) (was list now : List ℕ) (r : Done) → turns ≡ max times 1 →
     list ≡ replicate (length was) fill_word → Turned turns fill_word (call_in code words (length list)) l list now r →
-    Changed code words times l was now (record { refused = r.refused; answers = r.answers }) r.ledger
+    Changed code words times l was now r.said r.ledger
 changed code words times turns l was list now r t f turned =
     let e : list ≡ filled was = filled_anew was list f in
     let n : length list ≡ length was = ap length e ∙ length-map was (λ w. fill_word) in
@@ -39,14 +39,10 @@ changed_held code words zero l was now reply r c = c.held
 changed_held code words (suc n) l was now reply r c = c.held
 
 -- one turn of a reading; the list may have been filled and read into before
-pub asked : (code : ℕ) (words : List ℕ) (l : Ledger) (was before list now : List ℕ) (r : Answer) → length before ≡ length was →
+pub asked : (code : ℕ) (words : List ℕ) (l : Ledger) (was before list now : List ℕ) (r : Result ℕ Refusal) → length before ≡ length was →
     list ≡ replicate (length before) fill_word → Reads (read (reading_in code words (length list)) (contents l)) list now r →
-    Asked code words l was now (record { refused = r.refused; answers = r.answer ∷ 0 ∷ 0 ∷ [] })
+    Asked code words l was now r
 asked code words l was before list now r s f reads =
     let e : list ≡ filled was = filled_anew was list (f ∙ ap (λ n. replicate n fill_word) s) in
     let n : length list ≡ length was = ap length e ∙ length-map was (λ w. fill_word) in
     rw (n, e) at reads
-
--- some turn is made
-pub some_turn : (times : ℕ) → 0 < max times 1
-some_turn times = omega arith

@@ -1,17 +1,15 @@
 -- What a line of a script does: the call that its code, numbers and lent list name, as often as it is made.
-use Rattle.std.specs.Prelude.{ℕ, zero, suc, ◌-◌, List, [], map, get_or, length}
+use Rattle.std.specs.Prelude.{ℕ, zero, suc, ◌-◌, List, [], map, length, Result}
 use Rattle.rules.specs.Words.{word}
 use Rattle.rules.specs.Calls.{Call, making}
 use Rattle.rules.specs.Readings.{Reading, read}
+use Rattle.types.specs.declared.refusal.Refusal.{Refusal}
 use Rattle.ledger.specs.declared.Ledger.{Ledger}
-use Rattle.ledger.specs.declared.Done.{Done}
 use Rattle.ledger.specs.Contents.{contents}
-use Rattle.ledger.specs.Meets.{Meets}
-use Rattle.readings.specs.declared.Answer.{Answer}
+use Rattle.ledger.specs.Meets.{Meets, saying}
 use Rattle.readings.specs.Reads.{Reads}
 use Rattle.dispatch.specs.Changing.{call_of, Turned}
 use Rattle.dispatch.specs.Reading.{reading_of}
-use Rattle.replay.specs.declared.replies.Reply.{Reply}
 
 -- once, unless a `repeat` says how often
 abbrev pub turns_of : ℕ → ℕ
@@ -32,19 +30,16 @@ call_in code words room = call_of (code - 1) words room
 abbrev pub reading_in : ℕ → List ℕ → ℕ → Reading
 reading_in code words room = reading_of (code - 14) words room
 
--- what a call says, with the ledger after it, and what a reading says
-abbrev pub done_by : Reply → Ledger → Done
-done_by reply r = record { refused = reply.refused; answers = reply.answers; ledger = r }
-
-abbrev pub answer_by : Reply → Answer
-answer_by reply = record { refused = reply.refused; answer = get_or reply.answers 0 0 }
+-- what a call says
+abbrev pub Reply : Type 0
+Reply = Result (List ℕ) Refusal
 
 abbrev pub Renewed : List ℕ → Reply → Ledger → Type 0
-Renewed ws reply r = Meets (making (word 0 ws) (word 1 ws) (word 2 ws) (word 3 ws)) [] [] (done_by reply r)
+Renewed ws reply r = Meets (making (word 0 ws) (word 1 ws) (word 2 ws) (word 3 ws)) [] [] (saying reply r)
 
 -- of a line's code, numbers and lent list: what is said, the list after it, and the ledger after it
 abbrev pub Changed : ℕ → List ℕ → ℕ → Ledger → List ℕ → List ℕ → Reply → Ledger → Type 0
-Changed code words times l was now reply r = Turned (turns_of times) fill_word (call_in code words (length was)) l (filled was) now (done_by reply r)
+Changed code words times l was now reply r = Turned (turns_of times) fill_word (call_in code words (length was)) l (filled was) now (saying reply r)
 
-abbrev pub Asked : ℕ → List ℕ → Ledger → List ℕ → List ℕ → Reply → Type 0
-Asked code words l was now reply = Reads (read (reading_in code words (length was)) (contents l)) (filled was) now (answer_by reply)
+abbrev pub Asked : ℕ → List ℕ → Ledger → List ℕ → List ℕ → Result ℕ Refusal → Type 0
+Asked code words l was now said = Reads (read (reading_in code words (length was)) (contents l)) (filled was) now said

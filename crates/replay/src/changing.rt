@@ -24,15 +24,12 @@ pub fn renew(ledger: &mut Ledger, words: &[u64], times: u64) -> Reply
     for _turn in 1..times {
         done = making::new(local, validity, core_span, leg_span);
     }
-    let answers = done.answers;
     *ledger = done.ledger;
-    Reply {
-        refused: done.refused,
-        answers,
-    }
+    done.said
 }
 
 // The call of a code as often as is said, and once at least: each time on the ledger that the last handed back and on the list filled anew.
+#[tactic(auto, using(crate::proofs::Replied::changed))]
 pub fn apply(ledger: &mut Ledger, code: usize, words: &[u64], list: &mut [u64], times: u64) -> Reply
     requires { Held ledger.old × (1 < code) }
     ensures { Changed code words.now times ledger.old list.old list.new result ledger.new }
@@ -40,10 +37,6 @@ pub fn apply(ledger: &mut Ledger, code: usize, words: &[u64], list: &mut [u64], 
     let kind = (code - NEW) as u64;
     list.fill(FILL);
     let done = changing::apply(*ledger, kind, words, list, times.max(1), FILL);
-    let answers = done.answers;
     *ledger = done.ledger;
-    Reply {
-        refused: done.refused,
-        answers,
-    }
+    done.said
 }

@@ -8,7 +8,8 @@ use ledger::Ledger;
 use script::Writer;
 use std::io::Write;
 use store::departures::{Departure, Departures};
-use store::issuers::{Issuers, transaction_at};
+use store::issuers::Issuers;
+use types::Transaction;
 
 pub fn put_ledger<W: Write>(writer: &mut Writer<W>, ledger: &Ledger)
     requires { Held ledger.now }
@@ -47,7 +48,8 @@ fn put_departures<W: Write>(writer: &mut Writer<W>, departures: &Departures)
 }
 
 fn put_departure<W: Write>(writer: &mut Writer<W>, d: Departure) {
-    writer.put_words(&[d.shard.0, d.cut.0, d.stamped as u64, d.until.0]);
+    let until = d.until.map_or(0, |time| time.0);
+    writer.put_words(&[d.shard.0, d.cut.0, d.until.is_some() as u64, until]);
 }
 
 // Record and transaction of each pair.
@@ -55,7 +57,7 @@ fn put_index<W: Write>(writer: &mut Writer<W>, issuers: &Issuers)
     requires { index.Sound issuers.now }
 {
     for i in 0..issuers.len {
-        let tx = transaction_at(&issuers.transactions, i);
+        let tx = Transaction(issuers.transactions[i]);
         let mut words = [issuers.records[i], 0];
         tx.put(&mut words, 1);
         writer.put_words(&words);

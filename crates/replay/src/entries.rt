@@ -1,15 +1,12 @@
 // An entry's words: those of its admission, and how it stands.
-ghost use Rattle.std.specs.Prelude.{◌≤◌, length};
-ghost use Rattle.lists.specs.Lists.{Every};
-ghost use Rattle.entry.specs.Entry.{Fits};
+ghost use Rattle.std.specs.Prelude.{◌≡◌, ◌≤◌, true, leb, length};
+ghost use Rattle.lists.specs.Lists.{all};
 
 use entry::Entry;
 use script::Writer;
 use std::io::Write;
 
-pub fn put_entry<W: Write>(writer: &mut Writer<W>, e: &Entry)
-    requires { Fits e.now }
-{
+pub fn put_entry<W: Write>(writer: &mut Writer<W>, e: &Entry) {
     put_terms(writer, e);
     put_edges(writer, e);
     put_standing(writer, e);
@@ -18,9 +15,7 @@ pub fn put_entry<W: Write>(writer: &mut Writer<W>, e: &Entry)
 }
 
 // The admission's words up to the edges.
-fn put_terms<W: Write>(writer: &mut Writer<W>, e: &Entry)
-    requires { Fits e.now }
-{
+fn put_terms<W: Write>(writer: &mut Writer<W>, e: &Entry) {
     let mut head = [
         e.routes_len as u64,
         e.core_len as u64,
@@ -39,9 +34,7 @@ fn put_terms<W: Write>(writer: &mut Writer<W>, e: &Entry)
 }
 
 // The edges, and the destinations of all of them.
-fn put_edges<W: Write>(writer: &mut Writer<W>, e: &Entry)
-    requires { Fits e.now }
-{
+fn put_edges<W: Write>(writer: &mut Writer<W>, e: &Entry) {
     let n = e.edges_len as usize;
     let sizes = &e.sizes[..n];
     writer.put_words(&e.ids[..n]);
@@ -62,18 +55,14 @@ fn put_standing<W: Write>(writer: &mut Writer<W>, e: &Entry) {
     ]);
 }
 
-fn put_absences<W: Write>(writer: &mut Writer<W>, e: &Entry)
-    requires { Fits e.now }
-{
+fn put_absences<W: Write>(writer: &mut Writer<W>, e: &Entry) {
     let n = e.absences_len as usize;
-    for (shard, key) in e.absent_shards[..n].iter().zip(&e.absent_keys[..n]) {
-        writer.put_words(&[*shard, *key]);
+    for absence in &e.absences[..n] {
+        writer.put_words(&[absence.shard.0, absence.key]);
     }
 }
 
-fn put_marks<W: Write>(writer: &mut Writer<W>, e: &Entry)
-    requires { Fits e.now }
-{
+fn put_marks<W: Write>(writer: &mut Writer<W>, e: &Entry) {
     writer.put_word(e.marks_len as u64);
     writer.put_words(&e.marks[..e.marks_len as usize]);
 }
@@ -87,7 +76,7 @@ fn put_bytes<W: Write>(writer: &mut Writer<W>, bytes: &[u8]) {
 
 // How many destinations edges have in all.
 fn total(sizes: &[u8]) -> usize
-    requires { (length sizes.now ≤ 8) × Every (λ s. s ≤ 4) sizes.now }
+    requires { (length sizes.now ≤ 8) × (all (λ s. leb s 4) sizes.now ≡ true) }
     ensures { result ≤ 32 }
 {
     let mut sum = 0;

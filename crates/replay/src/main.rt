@@ -8,7 +8,6 @@ mod reading;
 mod replies;
 
 use calls::making;
-use replies::Reply;
 use script::calls::{DUMP, NEW, QUESTIONS};
 use script::{Line, Reader, Writer};
 use types::Shard;
@@ -16,6 +15,7 @@ use types::Shard;
 // Line by line to the end of the script, or to a line that is malformed or names a call that is not there. `repeat` says how often the next
 // call is made, where one waits for its call. No script has 2^64 lines. The calls are made here, since a function around them would copy the
 // ledger twice more a line.
+#[tactic(auto, using(crate::proofs::Replied::changed_held))]
 fn main(rt: HostRuntime) {
     let mut reader = Reader::new(rt.stdin());
     let mut writer = Writer::new(rt.stdout());
@@ -45,9 +45,9 @@ fn main(rt: HostRuntime) {
         } else if code < QUESTIONS {
             changing::apply(&mut ledger, code, words, list, times)
         } else if code < DUMP {
-            reading::ask(&ledger, code, words, list, times)
+            reading::ask(&ledger, code, words, list, times).map(|answer| [answer, 0, 0])
         } else {
-            Reply::default()
+            Ok([0; 3])
         };
         replies::put_reply(&mut writer, call, reply, &ledger, list);
     }

@@ -3,29 +3,28 @@ ghost use Rattle.std.specs.Prelude.{◌<◌};
 ghost use Rattle.ledger.specs.Contents.{Held};
 ghost use Rattle.replay.specs.Lines.{Asked};
 
-use crate::replies::Reply;
 use dispatch::reading;
 use ledger::Ledger;
-use readings::Answer;
 use script::FILL;
 use script::calls::PRUNE;
+use types::refusal::Refusal;
 
 // The reading of a code as often as is said, and once at least: each time of the same ledger and on the list filled anew.
-pub fn ask(ledger: &Ledger, code: usize, words: &[u64], list: &mut [u64], times: u64) -> Reply
+pub fn ask(
+    ledger: &Ledger,
+    code: usize,
+    words: &[u64],
+    list: &mut [u64],
+    times: u64,
+) -> Result<u64, Refusal>
     requires { Held ledger.now × (14 < code) }
     ensures { Asked code words.now ledger.now list.old list.new result }
 {
     let kind = (code - PRUNE) as u64;
-    let mut answer = Answer {
-        refused: 0,
-        answer: 0,
-    };
+    let mut answer = Ok(0);
     for turn in 0..times.max(1) {
         list.fill(FILL);
         answer = reading::ask(*ledger, kind, words, list);
     }
-    Reply {
-        refused: answer.refused,
-        answers: [answer.answer, 0, 0],
-    }
+    answer
 }

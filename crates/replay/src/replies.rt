@@ -6,13 +6,10 @@ use crate::dump;
 use ledger::Ledger;
 use script::{Call, Writer, calls as codes};
 use std::io::Write;
+use types::refusal::Refusal;
 
-// What a call says: 0 or its refusal, and its answers, 0 where it has none.
-#[derive(Clone, Copy, Default)]
-pub struct Reply {
-    pub refused: u64,
-    pub answers: [u64; 3],
-}
+// What a call says: its answers, 0 where it has fewer than three, or why it is turned away.
+pub type Reply = Result<[u64; 3], Refusal>;
 
 // How many answers a call has.
 fn answers_of(code: usize) -> usize
@@ -45,9 +42,12 @@ pub fn put_reply<W: Write>(
 
 // status { " " answer }; after a refusal no answer. What `dump` says follows by itself.
 fn put_answers<W: Write>(writer: &mut Writer<W>, code: usize, reply: Reply) {
-    writer.put_number(reply.refused);
-    if reply.refused == 0 {
-        writer.put_words(&reply.answers[..answers_of(code)]);
+    match reply {
+        Ok(answers) => {
+            writer.put_number(0);
+            writer.put_words(&answers[..answers_of(code)]);
+        }
+        Err(refusal) => writer.put_number(refusal.number()),
     }
 }
 

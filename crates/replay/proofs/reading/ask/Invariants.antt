@@ -1,7 +1,7 @@
 -- `replay::reading::ask`: After a turn the list and the answer are those of the reading, on the list filled anew.
-use Rattle.std.proofs.Common.{◌<◌, [], ◌∷◌}
+use Rattle.std.proofs.Common.{◌<◌}
 use Rattle.replay.specs.Lines.{Asked}
 use Rattle.replay.proofs.reading.ask.Given as goal
 
 abbrev pub invariant-loop-turn : goal.invariant-loop-turn
-invariant-loop-turn l = 0 < l.turn → Asked l.code l.words l.ledger l.initial.list l.list (record { refused = l.answer.refused; answers = l.answer.answer ∷ 0 ∷ 0 ∷ [] })
+invariant-loop-turn l = 0 < l.turn → Asked l.code l.words l.ledger l.initial.list l.list l.answer
