@@ -1,4 +1,5 @@
 -- Each arm makes the call of its kind, and a turn goes on from the one before.
+use borrow.Author.Rules.{rules}
 use borrow.Author.Tests.{ne_eqb}
 use mathlib.Core.Path.{◌≡◌, ◌∙◌}
 use mathlib.Core.List.{List}
@@ -27,8 +28,8 @@ loop-i-preserved c =
       | in-2 w ↦ rw (w.lent-is, w.done-is) (on _ w.record_absence-done.result (simp (w.in-2.is, ← c.read-tx.ensures, ← c.word_at-b.ensures, ← c.word_at-c.ensures) (beside _ _ _ w.record_absence-done.ensures)) same)
       | in-3 w ↦ rw (w.lent-is, w.done-is) (on _ w.certify-done.result (simp (w.in-3.is, ← c.read-tx.ensures, ← c.word_at-b.ensures) (beside _ _ _ w.certify-done.ensures)) same)
       | in-4 w ↦ rw (w.lent-is, w.done-is) (on _ w.record_abandonment-done.result (simp w.in-4.is (beside _ _ _ w.record_abandonment-done.ensures)) same)
-      | in-5 w ↦ rw (w.lent-is, w.done-is) (on _ w.settled-done.result (simp (w.in-5.is, ← c.word_at-a.ensures, ← c.read-second.ensures) (beside _ _ _ w.settled-done.ensures)) same)
-      | in-6 w ↦ rw (w.lent-is, w.done-is) (on _ w.returned-done.result (simp (w.in-6.is, ← c.word_at-a.ensures, ← c.read-second.ensures) (beside _ _ _ w.returned-done.ensures)) same)
+      | in-5 w ↦ rw (w.lent-is, w.done-is) (on _ _ (simp (w.in-5.is, ← c.word_at-a.ensures, ← c.read-second.ensures) (beside _ _ _ (search rules))) same)
+      | in-6 w ↦ rw (w.lent-is, w.done-is) (on _ _ (simp (w.in-6.is, ← c.word_at-a.ensures, ← c.read-second.ensures) (beside _ _ _ (search rules))) same)
       | in-7 w ↦ rw (w.lent-is, w.done-is) (on _ w.closes-done.result (simp (w.in-7.is, ← same) w.closes-done.ensures) (w.closes-done.auto.lent ∙ same))
       | in-8 w ↦ rw (w.lent-is, w.done-is) (on _ w.fated-done.result (simp (w.in-8.is, ← c.read-tx.ensures) (beside _ _ _ w.fated-done.ensures)) same)
       | in-9 w ↦ rw (w.lent-is, w.done-is) (on _ w.release_resolved-done.result (simp w.in-9.is (beside _ _ _ w.release_resolved-done.ensures)) same)
