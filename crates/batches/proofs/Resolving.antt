@@ -48,10 +48,6 @@ use Rattle.batches.specs.Rulings.{plain_ruling, ruled_on}
 abbrev pub Resolving : Ledger → List ℕ → Ledger → ℕ → ℕ → Type 0
 Resolving l₀ ws l released i = Doing (on_entries (λ h. with_line h (deciding ws))) (of_entries (λ h. released_of h (deciding ws))) (finalization_lines ws) l₀ l released i
 
--- before the first line
-pub resolving : (l : Ledger) (ws : List ℕ) → Held l → Resolving l ws l 0 0
-resolving l ws h = nothing-done _ _ (finalization_lines ws) l h
-
 -- after the last
 pub resolved : (l₀ : Ledger) (ws : List ℕ) (l : Ledger) (released i : ℕ) → finalization_formed ws ≡ true → Resolving l₀ ws l released i → line_count ws ≤ i →
     Meets (after_finalization ws (contents l₀)) [] [] (says released l)

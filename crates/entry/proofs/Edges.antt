@@ -72,16 +72,6 @@ module _ (e : Entry) (fits : Fits e) where
   pub edges-end : (i : ℕ) → e.edges_len ≤ i → drop i (edges_of e) ≡ []
   edges-end i h = drop_of_length-le (edges_of e) {i = i} (omega (arith, length-edges))
 
-  -- a test of some edge, as a loop over the edges meets it
-  pub edges_hit : (p : Edge → Bool) (i : ℕ) → i < e.edges_len → p (edge_at e i) ≡ true → any p (drop i (edges_of e)) ≡ true
-  edges_hit p i h t = rw (edges-cons i h, t)
-
-  pub edges_miss : (p : Edge → Bool) (i : ℕ) → i < e.edges_len → p (edge_at e i) ≡ false → any p (drop (i + 1) (edges_of e)) ≡ any p (drop i (edges_of e))
-  edges_miss p i h t = rw (edges-cons i h, t)
-
-  pub edges-done : (p : Edge → Bool) (i : ℕ) → e.edges_len ≤ i → any p (drop i (edges_of e)) ≡ false
-  edges-done p i h = rw (edges-end i h)
-
 -- the tests of edges as one test of each
 abbrev pub issuing : ℕ → ℕ → Edge → Bool
 issuing local r g = eqb g.from local && eqb (record_key g.id) r

@@ -3,18 +3,18 @@
 -- Assumes nothing.
 use Prim.Native.Nat.{ℕ, zero, suc, ◌+◌, ◌-◌, ◌*◌, ◌≤◌, ◌<◌}
 use mathlib.Core.Path.{◌≡◌, refl, sym, ap, ◌∙◌}
-use mathlib.Core.List.{List, [], ◌∷◌, ◌++◌, append-nil}
+use mathlib.Core.List.{List, [], ◌∷◌, ◌++◌}
 use mathlib.Core.Bool.{Bool, true, false, ◌&&◌}
 use native.Mathlib.Numerals.{add-one}
 use native.Mathlib.Nat.{suc-mul, suc-add}
 use native.Mathlib.Omega.{arith}
 use borrow.Author.Tests.{leb-true, le-leb, ltb-true, lt-ltb}
 use lib.Dec.{ltb, leb}
-use lib.ListN.{length, take, drop, get_or, set, length-take, length-drop, drop_of_length-le}
-use lib.Seq.{drop-cons, take-suc-set, append_snoc, take-take, drop-drop, get_or-drop, get_or-take, take-nil, drop-nil}
+use lib.ListN.{length, take, drop, get_or, length-take, length-drop, drop_of_length-le}
+use lib.Seq.{drop-cons, take-take, drop-drop, get_or-drop, get_or-take, take-nil}
 use Rattle.std.specs.List.{AllAdjacentBelow, IsAllAdjacentAnswer}
 use Rattle.lists.specs.Lists.{any, all, Every, all_of, total, zip_by, self, part, cut, above_all, ascending}
-use Rattle.lists.proofs.Tests.{and_left, and_right, and_both, and_true, and_false}
+use Rattle.lists.proofs.Tests.{and_left, and_right, and_both, and_false}
 
 -- what is still to come: one more, or none
 
@@ -29,12 +29,6 @@ rest_tail s i x t e = sym (drop-drop 1 i s) ∙ ap (drop 1) e
 
 -- a test of each: all p (what is to come) stays
 
-pub all_hit : {A : Type 0} (p : A → Bool) (d : A) (s : List A) (i : ℕ) → i < length s → p (get_or s i d) ≡ true → all p (drop (i + 1) s) ≡ all p (drop i s)
-all_hit p d s i h t = rw (rest_more d s i h, t)
-
-pub all_miss : {A : Type 0} (p : A → Bool) (d : A) (s : List A) (i : ℕ) → i < length s → p (get_or s i d) ≡ false → all p (drop i s) ≡ false
-all_miss p d s i h t = rw (rest_more d s i h, t)
-
 pub all_end : {A : Type 0} (p : A → Bool) (s : List A) (i : ℕ) → length s ≤ i → all p (drop i s) ≡ true
 all_end p s i h = rw (rest-none s i h)
 
@@ -45,14 +39,8 @@ all-at p d (x ∷ s) (suc i) h t = all-at p d s i (omega arith) (and_right (p x)
 
 -- a test of some: any p (what is to come) stays
 
-pub any_found : {A : Type 0} (p : A → Bool) (d : A) (s : List A) (i : ℕ) → i < length s → p (get_or s i d) ≡ true → any p (drop i s) ≡ true
-any_found p d s i h t = rw (rest_more d s i h, t)
-
 pub any-passed : {A : Type 0} (p : A → Bool) (d : A) (s : List A) (i : ℕ) → i < length s → p (get_or s i d) ≡ false → any p (drop (i + 1) s) ≡ any p (drop i s)
 any-passed p d s i h t = rw (rest_more d s i h, t)
-
-pub any_none : {A : Type 0} (p : A → Bool) (s : List A) (i : ℕ) → length s ≤ i → any p (drop i s) ≡ false
-any_none p s i h = rw (rest-none s i h)
 
 -- tests of two rows of tests are the tests of both in a row
 
@@ -60,23 +48,6 @@ pub all_of-append : (a b : List Bool) → all_of (a ++ b) ≡ all_of a && all_of
 all_of-append [] b = refl
 all_of-append (true ∷ a) b = all_of-append a b
 all_of-append (false ∷ a) b = refl
-
--- tests one after the other: the first that fails answers, else the last
-
-pub stops : (a b : Bool) → a ≡ false → a && b ≡ false
-stops a b h = rw h
-
-pub goes : (a b : Bool) → a ≡ true → a && b ≡ b
-goes a b h = rw h
-
-pub first_fails : (x y z : Bool) → x ≡ false → false ≡ all_of (x ∷ y ∷ z ∷ [])
-first_fails x y z h = rw h
-
-pub second_fails : (x y z : Bool) → x ≡ true → y ≡ false → false ≡ all_of (x ∷ y ∷ z ∷ [])
-second_fails x y z h k = rw (h, k)
-
-pub third_says : (x y z r : Bool) → x ≡ true → y ≡ true → r ≡ z → r ≡ all_of (x ∷ y ∷ z ∷ [])
-third_says x y z r h k e = rw (h, k, e, and_true z)
 
 -- a test that cannot have passed
 
@@ -88,9 +59,6 @@ fails false h = refl
 
 pub total_more : {A : Type 0} (f : A → ℕ) (d : A) (s : List A) (x i : ℕ) → i < length s → x + f (get_or s i d) + total f (drop (i + 1) s) ≡ x + total f (drop i s)
 total_more f d s x i h = rw (rest_more d s i h) (omega arith)
-
-pub total-none : {A : Type 0} (f : A → ℕ) (s : List A) (i : ℕ) → length s ≤ i → total f (drop i s) ≡ 0
-total-none f s i h = rw (rest-none s i h)
 
 pub total-within : (limit : ℕ) (s : List ℕ) → all (λ n. leb n limit) s ≡ true → total self s ≤ length s * limit
 total-within limit [] t = omega arith
@@ -133,23 +101,6 @@ module _ (x y : ℕ) (l : List ℕ) where
       go true t false u = and_false (above_all self x l)
       go false t c u = refl
 
-rises_rest : (s : List ℕ) (i : ℕ) → i + 1 < length s → ascending self (drop i s) ≡ ltb (get_or s i 0) (get_or s (i + 1) 0) && ascending self (drop (i + 1) s)
-rises_rest s i h =
-    rw (rest_more 0 s i (omega arith), rest_more 0 s (i + 1) h) (rises_two (get_or s i 0) (get_or s (i + 1) 0) (drop (i + 1 + 1) s))
-
-pub rises_hit : (s : List ℕ) (i : ℕ) → i + 1 < length s → ltb (get_or s i 0) (get_or s (i + 1) 0) ≡ true → ascending self (drop (i + 1) s) ≡ ascending self (drop i s)
-rises_hit s i h t = sym (rises_rest s i h ∙ ap (λ b. b && ascending self (drop (i + 1) s)) t)
-
-pub rises_miss : (s : List ℕ) (i : ℕ) → i + 1 < length s → ltb (get_or s i 0) (get_or s (i + 1) 0) ≡ false → ascending self (drop i s) ≡ false
-rises_miss s i h t = rises_rest s i h ∙ ap (λ b. b && ascending self (drop (i + 1) s)) t
-
-pub rises_end : (s : List ℕ) (i : ℕ) → length s ≤ i + 1 → ascending self (drop i s) ≡ true
-rises_end [] i h = rw (drop-nil i)
-rises_end (x ∷ []) zero h = refl
-rises_end (x ∷ []) (suc i) h = rw (drop-nil i)
-rises_end (x ∷ y ∷ s) zero h = absurd (omega arith)
-rises_end (x ∷ y ∷ s) (suc i) h = rises_end (y ∷ s) i (omega arith)
-
 -- each and the next compared: what the library answers
 
 rises_each : (s : List ℕ) → AllAdjacentBelow (λ x y. true ≡ ltb x y) s (length s) → ascending self s ≡ true
@@ -166,17 +117,6 @@ rises_not (x ∷ y ∷ l) (suc k) h t = rises_two x y l ∙ ap (λ b. ltb x y &&
 pub rises_by : (s : List ℕ) (r : Bool) → IsAllAdjacentAnswer (λ x y b. b ≡ ltb x y) s r → r ≡ ascending self s
 rises_by s true h = sym (rises_each s h)
 rises_by s false h = sym (rises_not s h.0 h.1 (sym (h.2 0)))
-
--- copying: the first i of out are written, what is still to come is drop i s
-
-pub copy_one : (out s : List ℕ) (i : ℕ) → i < length out → i < length s → take (i + 1) (set out i (get_or s i 0)) ++ drop (i + 1) s ≡ take i out ++ drop i s
-copy_one out s i h₁ h₂ = rw (add-one i, take-suc-set out i (get_or s i 0) h₁, drop-cons s i 0 h₂, append_snoc (take i out) (get_or s i 0))
-
-pub copy_end : (out s : List ℕ) (i : ℕ) → length s ≤ i → i ≤ length s → take i out ++ drop i s ≡ s → take (length s) out ≡ s
-copy_end out s i h₁ h₂ e =
-    let q : i ≡ length s = omega arith in
-    let f : take i out ≡ s = simp (rest-none s i h₁, append-nil) at e in
-    rw q at f
 
 -- what stands in a part, and how much
 
@@ -240,18 +180,3 @@ pub zip_by-length : {A B C : Type 0} (f : A → B → C) (xs : List A) (ys : Lis
 zip_by-length f [] ys h = refl
 zip_by-length f (x ∷ xs) [] h = absurd (omega arith)
 zip_by-length f (x ∷ xs) (y ∷ ys) h = ap suc (zip_by-length f xs ys (omega arith))
-
--- a loop over joined lists, at the i-th, which starts at a place: the test of each list still to come stays
-
-module _ (p : List ℕ → Bool) (sizes l m : List ℕ) (i at n : ℕ) (h : i < length sizes) (e : n ≡ get_or sizes i 0) (f : m ≡ part at n l) where
-  joined_more : all p (cut (drop i sizes) (drop at l)) ≡ p m && all p (cut (drop (i + 1) sizes) (drop (at + n) l))
-  joined_more = rw (cut_more sizes l i at h, f, e)
-
-  pub joined_hit : p m ≡ true → all p (cut (drop (i + 1) sizes) (drop (at + n) l)) ≡ all p (cut (drop i sizes) (drop at l))
-  joined_hit t = sym (joined_more ∙ ap (λ b. b && all p (cut (drop (i + 1) sizes) (drop (at + n) l))) t)
-
-  pub joined_miss : p m ≡ false → all p (cut (drop i sizes) (drop at l)) ≡ false
-  joined_miss t = joined_more ∙ ap (λ b. b && all p (cut (drop (i + 1) sizes) (drop (at + n) l))) t
-
-pub joined_end : (p : List ℕ → Bool) (sizes l : List ℕ) (i : ℕ) → length sizes ≤ i → all p (cut (drop i sizes) l) ≡ true
-joined_end p sizes l i h = rw (rest-none sizes i h)

@@ -12,10 +12,9 @@ use lib.ListN.{length, take, drop, get_or, set, take-append-drop, length-set}
 use lib.Seq.{split_at, get_or-set_same, get_or-set_other, take-suc-set, take-set-le, take-set-lt, drop-set-lt, append_snoc}
 use Rattle.std.specs.List.{swap}
 use Rattle.std.proofs.lemmas.List.{get_or_default}
-use Rattle.lists.specs.Lists.{cons_if, keep, keep_by, any, Every, has, self, Ascending}
+use Rattle.lists.specs.Lists.{cons_if, keep, keep_by, any, Every, has, self}
 use Rattle.lists.specs.Arrays.{insert_at, remove_at, Distinct}
 use Rattle.lists.proofs.Keep.{any_append, every_append}
-use Rattle.lists.proofs.Order.{above_lacks}
 use Rattle.lists.proofs.Parts.{every_take, every_drop}
 use Rattle.lists.proofs.Loops.{fill_hole, rest-cons, rest_end}
 
@@ -259,8 +258,3 @@ module _ {A : Type 0} where
       (rw (add-one w, take-suc-set m w (get_or a i d) (omega (arith, length-set a i (get_or a w d))), take-set-le w a i (get_or a w d) h))
       (rw (take-set-lt n m w (get_or a i d) (omega arith), drop-set-lt (i + 1) (take n m) w (get_or a i d) (omega arith), take-set-lt n a i (get_or a w d) h₁)
       (drop-set-lt (i + 1) (take n a) i (get_or a w d) (omega arith)))
-
--- rising numbers are distinct
-pub distinct-ascending : (l : List ℕ) → Ascending self l → Distinct l
-distinct-ascending [] a = tt
-distinct-ascending (x ∷ l) a = (above_lacks self x x l (omega arith) a.0, distinct-ascending l a.1)

@@ -1,9 +1,9 @@
 -- What a loop over the front of an array cites at its turn and at its end, and what a caller cites of a search. For any element.
 -- The front is `take n a`; what is still to come at turn i is `drop i (take n a)`. d is what is read past an array's end: write _.
 -- Assumes nothing.
-use Prim.Native.Nat.{ℕ, zero, suc, ◌+◌, ◌-◌, ◌≤◌, ◌<◌}
-use mathlib.Core.Path.{◌≡◌, refl, sym, ap, ◌∙◌, subst}
-use mathlib.Core.List.{List, [], ◌∷◌, ◌++◌, map, append_assoc}
+use Prim.Native.Nat.{ℕ, zero, suc, ◌+◌, ◌≤◌, ◌<◌}
+use mathlib.Core.Path.{◌≡◌, refl, ap, subst}
+use mathlib.Core.List.{List, [], ◌∷◌, map}
 use mathlib.Core.Bool.{Bool, true, false, cond, not, ◌||◌, true≢false}
 use mathlib.Core.Option.{none, some}
 use native.Mathlib.Numerals.{add-one}
@@ -11,59 +11,14 @@ use native.Mathlib.Omega.{arith}
 use borrow.Author.Tests.{eqb-true, eqb-false, ne_eqb, ltb-true, ltb-false, lt-ltb, le-ltb}
 use lib.Dec.{eqb, ltb}
 use lib.ListN.{length, take, drop, get_or, set, drop_of_length-le}
-use lib.Seq.{drop-cons, take-suc-set, drop-set-lt, take-append-le, length-take-le, take-take, get_or-take, append_snoc}
+use lib.Seq.{drop-cons, length-take-le, get_or-take}
 use Rattle.std.specs.Prelude.{Some, None}
 use Rattle.lists.specs.Lists.{cons_if, any, at, has, get, without, change, include, Ascending}
 use Rattle.lists.specs.Arrays.{insert_at, remove_at, place, rank}
 use Rattle.lists.proofs.Order.{above_lacks}
 use Rattle.lists.proofs.Change.{change_lacking}
 
--- searching
-
-place-step : {A : Type 0} (p : A → Bool) (i : ℕ) (d : A) (l : List A) → i < length l → place p i (drop i l) ≡ cond (p (get_or l i d)) (Some i) (place p (i + 1) (drop (i + 1) l))
-unfolding place
-place-step p i d l h = rw (drop-cons l i d h, add-one)
-
-place_end : {A : Type 0} (p : A → Bool) (i : ℕ) (l : List A) → length l ≤ i → place p i (drop i l) ≡ None
-unfolding place
-place_end p i l h = rw (drop_of_length-le l h)
-
-rank_step : {A : Type 0} (p : A → Bool) (i : ℕ) (d : A) (l : List A) → i < length l → i + rank p (drop i l) ≡ cond (p (get_or l i d)) (i + 1 + rank p (drop (i + 1) l)) i
-unfolding rank
-rank_step p i d l h = rw (drop-cons l i d h, add-one) (elim (p (get_or l i d)) as (λ b. i + cond b (suc (rank p (drop (suc i) l))) 0 ≡ cond b (suc i + rank p (drop (suc i) l)) i) [ true ↦ omega arith | false ↦ omega arith ])
-
-rank-end : {A : Type 0} (p : A → Bool) (i : ℕ) (l : List A) → length l ≤ i → i + rank p (drop i l) ≡ i
-unfolding rank
-rank-end p i l h = rw (drop_of_length-le l h) (omega arith)
-
--- the same over the first n of an array, as a loop meets them. d is what the check reads past an array's end: write _
-
-pub place_hit : {A : Type 0} (p : A → Bool) (d : A) (a : List A) (i n : ℕ) → i < n → n ≤ length a → p (get_or a i d) ≡ true → place p i (drop i (take n a)) ≡ Some i
-place_hit p d a i n h₁ h₂ t =
-    let e₀ : length (take n a) ≡ n = length-take-le n a h₂ in
-    rw (place-step p i d (take n a) (omega arith), get_or-take n a i d h₁, t)
-
-pub place_miss : {A : Type 0} (p : A → Bool) (d : A) (a : List A) (i n : ℕ) → i < n → n ≤ length a → p (get_or a i d) ≡ false → place p (i + 1) (drop (i + 1) (take n a)) ≡ place p i (drop i (take n a))
-place_miss p d a i n h₁ h₂ t =
-    let e₀ : length (take n a) ≡ n = length-take-le n a h₂ in
-    rw (place-step p i d (take n a) (omega arith), get_or-take n a i d h₁, t)
-
-pub place-done : {A : Type 0} (p : A → Bool) (a : List A) (i n : ℕ) → n ≤ i → n ≤ length a → place p i (drop i (take n a)) ≡ None
-place-done p a i n h₁ h₂ = place_end p i (take n a) (omega (arith, length-take-le n a h₂))
-
-pub rank_hit : {A : Type 0} (p : A → Bool) (d : A) (a : List A) (i n : ℕ) → i < n → n ≤ length a → p (get_or a i d) ≡ true → i + 1 + rank p (drop (i + 1) (take n a)) ≡ i + rank p (drop i (take n a))
-rank_hit p d a i n h₁ h₂ t =
-    let e₀ : length (take n a) ≡ n = length-take-le n a h₂ in
-    rw (rank_step p i d (take n a) (omega arith), get_or-take n a i d h₁, t)
-
-pub rank_miss : {A : Type 0} (p : A → Bool) (d : A) (a : List A) (i n : ℕ) → i < n → n ≤ length a → p (get_or a i d) ≡ false → i + rank p (drop i (take n a)) ≡ i
-rank_miss p d a i n h₁ h₂ t =
-    let e₀ : length (take n a) ≡ n = length-take-le n a h₂ in
-    rw (rank_step p i d (take n a) (omega arith), get_or-take n a i d h₁, t)
-
-pub rank-done : {A : Type 0} (p : A → Bool) (a : List A) (i n : ℕ) → n ≤ i → n ≤ length a → i + rank p (drop i (take n a)) ≡ i
-rank-done p a i n h₁ h₂ = rank-end p i (take n a) (omega (arith, length-take-le n a h₂))
-
+-- a rank is within the list
 pub rank_le : {A : Type 0} (p : A → Bool) (l : List A) → rank p l ≤ length l
 unfolding rank
 rank_le p [] = omega arith
@@ -205,61 +160,7 @@ include-rank {A} key e (x ∷ l) h = go (eqb (key x) (key e)) refl h (ltb (key x
 
 -- moving a hole through an array: `remove_at i a` is the array without what stands at the hole
 
-pub hole_up : {A : Type 0} (a : List A) (i : ℕ) (d : A) → i + 1 < length a → remove_at (i + 1) (set a i (get_or a (i + 1) d)) ≡ remove_at i a
-hole_up a i d h =
-    let v = get_or a (i + 1) d in
-    let h₁ : i < length a = omega arith in
-    let h₂ : suc i < length a = omega arith in
-    let e : v ∷ drop (suc (suc i)) a ≡ drop (suc i) a = rw add-one (sym (drop-cons a (suc i) d h₂)) in
-    rw (add-one i, take-suc-set a i (get_or a (suc i) d) h₁, drop-set-lt (suc (suc i)) a i (get_or a (suc i) d) (omega arith), append_assoc) (ap (λ m. take i a ++ m) (rw add-one at e))
-
-hole_down_suc : {A : Type 0} (a : List A) (i : ℕ) (d : A) → i + 1 < length a → remove_at i (set a (i + 1) (get_or a i d)) ≡ remove_at (i + 1) a
-hole_down_suc [] i d h = absurd (omega arith)
-hole_down_suc (x ∷ []) i d h = absurd (omega arith)
-hole_down_suc (x ∷ y ∷ l) zero d h = refl
-hole_down_suc (x ∷ y ∷ l) (suc i) d h = rw (add-one (suc i)) (ap (λ m. x ∷ m) (rw (add-one i) at (hole_down_suc (y ∷ l) i d (omega arith))))
-
-pub hole_down : {A : Type 0} (a : List A) (i : ℕ) (d : A) → 0 < i → i < length a → remove_at (i - 1) (set a i (get_or a (i - 1) d)) ≡ remove_at i a
-hole_down a i d h₁ h₂ =
-    let q : i - 1 + 1 ≡ i = omega arith in
-    rw q at (hole_down_suc a (i - 1) d (omega arith))
-
 pub fill_hole : {A : Type 0} (a : List A) (i : ℕ) (e : A) → i < length a → set a i e ≡ insert_at i e (remove_at i a)
 fill_hole [] i e h = absurd (omega arith)
 fill_hole (x ∷ l) zero e h = refl
 fill_hole (x ∷ l) (suc i) e h = ap (λ m. x ∷ m) (fill_hole l i e (omega arith))
-
-pub take_inserted : {A : Type 0} (n k : ℕ) (e : A) (a : List A) → k ≤ n → take (suc n) (insert_at k e a) ≡ insert_at k e (take n a)
-take_inserted n zero e a h = refl
-take_inserted zero (suc k) e a h = absurd (omega arith)
-take_inserted (suc n) (suc k) e [] h = refl
-take_inserted (suc n) (suc k) e (x ∷ a) h = ap (λ m. x ∷ m) (take_inserted n k e a (omega arith))
-
-pub take_removed : {A : Type 0} (n k : ℕ) (a : List A) → k ≤ n → take n (remove_at k a) ≡ remove_at k (take (suc n) a)
-take_removed zero zero [] h = refl
-take_removed (suc n) zero [] h = refl
-take_removed n zero (x ∷ a) h = refl
-take_removed zero (suc k) a h = absurd (omega arith)
-take_removed (suc n) (suc k) [] h = refl
-take_removed (suc n) (suc k) (x ∷ a) h = ap (λ m. x ∷ m) (take_removed n k a (omega arith))
-
--- what the shifts leave: cited at a function's return
-
-pub inserted : {A : Type 0} (a₀ a : List A) (n k : ℕ) (e : A) → k ≤ n → n < length a → n ≤ length a₀ → remove_at k a ≡ remove_at n a₀ → take (n + 1) (set a k e) ≡ insert_at k e (take n a₀)
-inserted a₀ a n k e h₁ h₂ h₃ q =
-    rw (add-one, fill_hole a k e (omega arith), q, take_inserted n k e (remove_at n a₀) h₁, take-append-le n (take n a₀) (drop (suc n) a₀) (omega (arith, length-take-le n a₀ h₃)), take-take n n a₀ (omega arith))
-
-pub removed : {A : Type 0} (a₀ a : List A) (n k : ℕ) → k < n → n ≤ length a → remove_at (n - 1) a ≡ remove_at k a₀ → take (n - 1) a ≡ remove_at k (take n a₀)
-removed a₀ a n k h₁ h₂ q =
-    let m = n - 1 in
-    let e₀ : suc m ≡ n = omega arith in
-    let e₁ : take m (remove_at m a) ≡ take m a = rw (take-append-le m (take m a) (drop (suc m) a) (omega (arith, length-take-le m a (omega arith))), take-take m m a (omega arith)) in
-    sym e₁ ∙ ap (λ l. take m l) q ∙ rw e₀ at (take_removed m k a₀ (omega arith))
-
--- pushing: out has its first j written, and what is still to come is the first n of a, from i on
-
-pub push_one : {A : Type 0} (out a : List A) (d : A) (j i n : ℕ) → j < length out → i < n → n ≤ length a → take (j + 1) (set out j (get_or a i d)) ++ drop (i + 1) (take n a) ≡ take j out ++ drop i (take n a)
-push_one out a d j i n h₁ h₂ h₃ =
-    let e₀ : length (take n a) ≡ n = length-take-le n a h₃ in
-    let e₁ : get_or (take n a) i d ≡ get_or a i d = get_or-take n a i d h₂ in
-    rw (add-one j, add-one i, take-suc-set out j (get_or a i d) h₁, drop-cons (take n a) i d (omega arith), e₁, append_snoc (take j out) (get_or a i d))

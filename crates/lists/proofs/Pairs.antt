@@ -36,18 +36,6 @@ module _ {A B C : Type 0} (f : A → B → C) where
   zip_get_d (x ∷ l) (y ∷ m) zero d e h = refl
   zip_get_d (x ∷ l) (y ∷ m) (suc i) d e h = zip_get_d l m i d e (omega arith)
 
-  pub zip-set : (l : List A) (m : List B) (i : ℕ) (x : A) (y : B) → zip_by f (set l i x) (set m i y) ≡ set (zip_by f l m) i (f x y)
-  zip-set [] m i x y = refl
-  zip-set (a ∷ l) [] zero x y = refl
-  zip-set (a ∷ l) [] (suc i) x y = refl
-  zip-set (a ∷ l) (b ∷ m) zero x y = refl
-  zip-set (a ∷ l) (b ∷ m) (suc i) x y = ap (λ r. f a b ∷ r) (zip-set l m i x y)
-
-  -- one place of both takes what stands at another
-  pub zip_move : (l : List A) (m : List B) (i j : ℕ) (d : A) (e : B) → length l ≡ length m →
-      zip_by f (set l i (get_or l j d)) (set m i (get_or m j e)) ≡ set (zip_by f l m) i (get_or (zip_by f l m) j (f d e))
-  zip_move l m i j d e h = zip-set l m i (get_or l j d) (get_or m j e) ∙ ap (set (zip_by f l m) i) (sym (zip_get_d l m j d e h))
-
 -- an array read through a function
 module _ {A B : Type 0} (f : A → B) where
   pub read_take : (n : ℕ) (l : List A) → take n (map f l) ≡ map f (take n l)
@@ -55,9 +43,6 @@ module _ {A B : Type 0} (f : A → B) where
   read_take zero (x ∷ l) = refl
   read_take (suc n) [] = refl
   read_take (suc n) (x ∷ l) = ap (λ r. f x ∷ r) (read_take n l)
-
-  pub read_move : (l : List A) (i j : ℕ) (d : A) → map f (set l i (get_or l j d)) ≡ set (map f l) i (get_or (map f l) j (f d))
-  read_move l i j d = map-set f l i (get_or l j d) ∙ ap (set (map f l) i) (sym (get_or-map f l j d))
 
   -- what is found by key is changed by writing it anew
   pub changed_at : (key : B → ℕ) (t : ℕ) (g : B → B) (d : A) (a : List A) (n i : ℕ) (y : A) → n ≤ length a → Ascending key (map f (take n a)) →
@@ -75,5 +60,3 @@ pub rank_same : {A : Type 0} (p q : A → Bool) (l : List A) → Every (λ x. p 
 unfolding rank
 rank_same p q [] v = refl
 rank_same p q (x ∷ l) v = rw (v.0, rank_same p q l v.1)
-
--- keeping by flags: w elements are kept, and those from i up to n are still to be looked at

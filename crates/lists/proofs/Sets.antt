@@ -1,18 +1,16 @@
 -- Numbers put into a set from the front: a set does not depend on the order in which they are put in, so that what is gathered for each of
 -- some numbers can be gathered in one pass. And lists kept twice, said one by one, added up from the front.
 -- Assumes nothing.
-use Prim.Native.Nat.{ℕ, zero, suc, ◌+◌, ◌≤◌, ◌<◌}
+use Prim.Native.Nat.{ℕ, zero, suc, ◌+◌, ◌<◌}
 use mathlib.Core.Path.{◌≡◌, refl, sym, ap, ◌∙◌}
 use mathlib.Core.Bool.{Bool, true, false, ◌&&◌, ◌||◌}
 use mathlib.Core.List.{List, [], ◌∷◌, ◌++◌, map}
 use native.Mathlib.Numerals.{add-one}
 use native.Mathlib.Omega.{arith}
 use borrow.Author.Tests.{eq-eqb, le-ltb}
-use lib.ListN.{length, take, drop, get_or, length-drop}
-use lib.Seq.{get_or-drop}
-use Rattle.lists.specs.Lists.{cons_if, keep, any, include, include_all, Above, Ascending, self, set_of, concat_map, total, part}
+use lib.ListN.{length, take, get_or}
+use Rattle.lists.specs.Lists.{cons_if, keep, any, include, include_all, Above, Ascending, self, set_of, concat_map, total}
 use Rattle.lists.proofs.Keep.{keep_never, every_always}
-use Rattle.lists.proofs.Loops.{rest-cons}
 use Rattle.lists.proofs.Order.{include-below, include_past, include_all_swap, above_keep, above_map, ascending-keep, ascending-map}
 
 include_all-append : {A : Type 0} (key : A → ℕ) (a b l : List A) → include_all key (a ++ b) l ≡ include_all key a (include_all key b l)
@@ -92,10 +90,3 @@ total_suc (x ∷ l) (suc i) h = omega (arith, total_suc l i (omega arith))
 -- the sum of one more
 pub total-next : (l : List ℕ) (i : ℕ) → i < length l → total self (take (i + 1) l) ≡ total self (take i l) + get_or l i 0
 total-next l i h = rw (add-one i) (total_suc l i h)
-
--- what is still to come of a part
-pub part-cons : (d : ℕ) (l : List ℕ) (from i n : ℕ) → i < n → from + n ≤ length l →
-    drop i (part from n l) ≡ get_or l (from + i) d ∷ drop (i + 1) (part from n l)
-part-cons d l from i n h k =
-    rest-cons d (drop from l) i n h (omega (arith, length-drop from l))
-    ∙ ap (λ x. x ∷ drop (i + 1) (part from n l)) (get_or-drop from l i d)

@@ -2,15 +2,14 @@
 -- the same of joined lists cut apart.
 -- Assumes nothing.
 use Prim.Native.Nat.{ℕ, zero, suc, ◌+◌, ◌≤◌, ◌<◌}
-use mathlib.Core.Path.{◌≡◌, refl, sym, ap, ◌∙◌}
+use mathlib.Core.Path.{◌≡◌, refl, ap, ◌∙◌}
 use mathlib.Core.List.{List, [], ◌∷◌}
 use mathlib.Core.Bool.{Bool, true, false}
-use native.Mathlib.Numerals.{add-one}
 use native.Mathlib.Omega.{arith}
-use lib.ListN.{length, take, drop, get_or, drop_of_length-le}
-use lib.Seq.{drop-cons, drop-drop, get_or-take, length-take-le}
+use lib.ListN.{length, take, drop, get_or}
+use lib.Seq.{drop-drop, get_or-take, length-take-le}
 use Rattle.lists.specs.Lists.{any, keep_by, zip_by, cut, total, self}
-use Rattle.lists.specs.Arrays.{insert_at, rank}
+use Rattle.lists.specs.Arrays.{insert_at}
 
 module _ {A B C : Type 0} (f : A → B → C) where
   pub length-zip : (xs : List A) (ys : List B) → length xs ≡ length ys → length (zip_by f xs ys) ≡ length xs
@@ -34,9 +33,6 @@ module _ {A B C : Type 0} (f : A → B → C) where
 
 -- two arrays of which the first n count
 module _ {A B C : Type 0} (f : A → B → C) (xs : List A) (ys : List B) (n : ℕ) (h : n ≤ length xs) (k : n ≤ length ys) where
-  pub length_pairs : length (zip_by f (take n xs) (take n ys)) ≡ n
-  length_pairs = length-zip f (take n xs) (take n ys) (length-take-le n xs h ∙ sym (length-take-le n ys k)) ∙ length-take-le n xs h
-
   pub pairs-at : (a : A) (b : B) (c : C) (i : ℕ) → i < n → get_or (zip_by f (take n xs) (take n ys)) i c ≡ f (get_or xs i a) (get_or ys i b)
   pairs-at a b c i l =
       get_d_zip f i a b c (take n xs) (take n ys) (omega (arith, length-take-le n xs h)) (omega (arith, length-take-le n ys k))
@@ -48,37 +44,10 @@ module _ {A B C : Type 0} (f : A → B → C) (xs : List A) (ys : List B) (n : �
   insert-pairs i a b us vs l p q =
       rw (p, q) (insert-zip f i a b (take n xs) (take n ys) (omega (arith, length-take-le n xs h)) (omega (arith, length-take-le n ys k)))
 
-  pub pairs-cons : (a : A) (b : B) (i : ℕ) → i < n →
-      drop i (zip_by f (take n xs) (take n ys)) ≡ f (get_or xs i a) (get_or ys i b) ∷ drop (i + 1) (zip_by f (take n xs) (take n ys))
-  pairs-cons a b i l =
-      rw (add-one i, drop-cons (zip_by f (take n xs) (take n ys)) i (f a b) (omega (arith, length_pairs)), pairs-at a b (f a b) i l)
-
-  pub pairs_end : (i : ℕ) → n ≤ i → drop i (zip_by f (take n xs) (take n ys)) ≡ []
-  pairs_end i l = drop_of_length-le (zip_by f (take n xs) (take n ys)) {i = i} (omega (arith, length_pairs))
-
 -- what a loop over such a list cites at its turn and at its end: what is still to come is x and more, or nothing
 module _ {A : Type 0} (p : A → Bool) (x : A) (i : ℕ) (l : List A) where
-  pub any_met : drop i l ≡ x ∷ drop (i + 1) l → p x ≡ true → any p (drop i l) ≡ true
-  any_met e t = rw (e, t)
-
   pub any-passed : drop i l ≡ x ∷ drop (i + 1) l → p x ≡ false → any p (drop (i + 1) l) ≡ any p (drop i l)
   any-passed e t = rw (e, t)
-
-  pub rank-passed : drop i l ≡ x ∷ drop (i + 1) l → p x ≡ true → i + 1 + rank p (drop (i + 1) l) ≡ i + rank p (drop i l)
-  unfolding rank
-  rank-passed e t = rw (e, t) (omega arith)
-
-  pub rank_met : drop i l ≡ x ∷ drop (i + 1) l → p x ≡ false → i + rank p (drop i l) ≡ i
-  unfolding rank
-  rank_met e t = rw (e, t) (omega arith)
-
-module _ {A : Type 0} (p : A → Bool) (i : ℕ) (l : List A) (e : drop i l ≡ []) where
-  pub any-over : any p (drop i l) ≡ false
-  any-over = rw e
-
-  pub rank-over : i + rank p (drop i l) ≡ i
-  unfolding rank
-  rank-over = rw e (omega arith)
 
 pub length_cut : (sizes l : List ℕ) → length (cut sizes l) ≡ length sizes
 length_cut [] l = refl

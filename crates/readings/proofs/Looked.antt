@@ -62,19 +62,6 @@ fails a b h = rw h
 pub follows : (a b d : Bool) → a ≡ true → d ≡ b → d ≡ a && b
 follows a b d h e = rw h e
 
-pub first_fails : (a b c : Bool) → a ≡ false → false ≡ a && b && c
-first_fails a b c h = rw h
-
-pub second_fails : (a b c : Bool) → a ≡ true → b ≡ false → false ≡ a && b && c
-second_fails a b c h k = rw (h, k)
-
-pub third_tells : (a b c d : Bool) → a ≡ true → b ≡ true → d ≡ c → d ≡ a && b && c
-third_tells a b c d h k e = rw (h, k) e
-
-pub nought : (n : ℕ) → eqb n 0 ≡ not (ltb 0 n)
-nought zero = refl
-nought (suc n) = ne_eqb (suc n) 0 (λ e. omega (arith, e)) ∙ sym (ap not (lt-ltb 0 (suc n) (omega arith)))
-
 -- The table, line by line.
 pub stops : (b : Bool) (n rest : ℕ) → b ≡ true → (b gives n then rest) ≡ n
 stops b n rest h = rw h
@@ -89,13 +76,3 @@ timely q now h = ltb-true q.at (2 ^ 48) (go (is_time q.at) refl)
     go : (b : Bool) → is_time q.at ≡ b → is_time q.at ≡ true
     go true e = e
     go false e = absurd (omega (arith, rw e at h))
-
--- A test of some, from where it is decided.
-pub first_holds : (a b c : Bool) → a ≡ true → true ≡ a || b || c
-first_holds a b c h = rw h
-
-pub second_holds : (a b c : Bool) → a ≡ false → b ≡ true → true ≡ a || b || c
-second_holds a b c h k = rw (h, k)
-
-pub third_left : (a b c d : Bool) → a ≡ false → b ≡ false → d ≡ c → d ≡ a || b || c
-third_left a b c d h k e = rw (h, k) e

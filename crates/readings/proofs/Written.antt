@@ -21,18 +21,6 @@ use Rattle.ledger.proofs.Meeting.{numbered}
 use Rattle.readings.specs.Reads.{Reads, Lists}
 use Rattle.readings.proofs.Looked.{refuses, stops}
 
-module _ (words lent : List ℕ) (n items : ℕ) (k : n ≤ length words) where
-  pub listed-none : length lent < n → Lists (take n words) items lent lent (Err ListShort)
-  listed-none h =
-      let t : too_short (length lent) (take n words) ≡ true = rw (length-take-le n words k) (lt-ltb (length lent) n h) in
-      record { refused = rw t; answer = rw t; wrote = rw t }
-
-  pub listed-all : (after : List ℕ) → n ≤ length lent → take n after ≡ take n words → drop n after ≡ drop n lent → Lists (take n words) items lent after (Ok items)
-  listed-all after h f b =
-      let t : too_short (length lent) (take n words) ≡ false = rw (length-take-le n words k) (le-ltb (length lent) n h) in
-      let e : after ≡ take n words ++ drop n lent = sym (take-append-drop n after) ∙ rw (f, b) in
-      record { refused = rw t; answer = rw t; wrote = rw t (rw (length-take-le n words k) e) }
-
 -- the words written out are those of the list's items
 module _ {A : Type 0} (f : A → List ℕ) (items : List A) (p : Plain) (m : ℕ) (lent : List ℕ) where
   pub reads_list : (after : List ℕ) (r : Result ℕ Refusal) → m ≡ 0 → Lists (concat_map f items) (length items) lent after r →

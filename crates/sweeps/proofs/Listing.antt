@@ -95,16 +95,6 @@ module _ (l : Ledger) (h : Held l) (stay : List Bool) (codes : List ℕ) (count 
           one_more true h = omega (arith, h)
           one_more false h = omega (arith, h)
 
-  pub judged_all : l.roster.len ≤ i → Judges l (record { stay = stay; codes = codes; count = count })
-  judged_all q =
-      let z : i ≡ l.roster.len = omega (arith, v.high) in
-      let n = entries-length l h in
-      record {
-        stay = ap (λ j. take j stay) (sym z) ∙ v.flags ∙ ap (map (stays_open l.local.0)) (take_all i (entries_of l) (omega (arith, n)));
-        codes = ap (λ j. take j codes) (sym z) ∙ v.decisions ∙ ap (map closing_decision) (take_all i (entries_of l) (omega (arith, n)));
-        count = omega (arith, rw (rest-none (entries_of l) i (omega (arith, n))) at v.total);
-      }
-
 -- Those listed: what is to come at i.
 abbrev pub listing : List Bool → List ℕ → List ℕ → ℕ → ℕ → List ℕ
 listing stay keys codes n i = listed_by (drop i (take n stay)) (drop i (take n keys)) (drop i (take n codes))
@@ -121,10 +111,6 @@ module _ (keys codes : List ℕ) (stay : List Bool) (n : ℕ) (lent₀ lent : Li
   module _ (h₁ : i < n) where
     next : listing stay keys codes n i ≡ cond (get_or stay i false) (listing stay keys codes n (i + 1)) (get_or keys i 0 ∷ get_or codes i 0 ∷ listing stay keys codes n (i + 1))
     next = rw (rest-cons false stay i n h₁ h₂, rest-cons 0 keys i n h₁ h₃, rest-cons 0 codes i n h₁ h₄)
-
-    -- there is room for two more
-    pub list_room : get_or stay i false ≡ false → length (listing stay keys codes n 0) ≤ length lent₀ → at + 2 ≤ length lent
-    list_room t r = omega (arith, v.same, r, rw (next, t) at v.size)
 
     pub list_none : get_or stay i false ≡ true → Listing keys codes stay n lent₀ lent at (i + 1)
     list_none t =
