@@ -39,7 +39,7 @@ use Rattle.ledger.specs.Meets.{Meets, says, says_no}
 use Rattle.ledger.proofs.Places.{found_at, not_found}
 use Rattle.ledger.proofs.Lift.{Became, changed, let_go}
 use Rattle.ledger.proofs.Meeting.{refuses, passes, answers}
-use Rattle.ledger.proofs.Doing.{Doing, nothing-done, one_done, all_done}
+use Rattle.ledger.proofs.Doing.{Doing, one_done, all_done}
 use Rattle.batches.specs.declared.finalization.Ruling as declared
 use Rattle.batches.specs.declared.finalization.Ruling.TheVariants.{Skip, Resolve, Release, Refused}
 use Rattle.batches.specs.Rulings.{plain_ruling, ruled_on}

@@ -1,13 +1,9 @@
 -- A loop over items that changes the ledger in hand: what is still to come does to it what all items do to the one handed in.
 -- Assumes nothing.
-use Prim.Native.Nat.{ℕ, zero, suc, ◌+◌, ◌≤◌, ◌<◌}
-use mathlib.Core.Path.{◌≡◌, refl}
-use mathlib.Core.Bool.{cond}
+use Prim.Native.Nat.{ℕ, ◌+◌, ◌≤◌}
+use mathlib.Core.Path.{◌≡◌}
 use mathlib.Core.List.{List, ◌∷◌}
-use native.Mathlib.Omega.{arith}
-use lib.Dec.{ltb}
 use lib.ListN.{length, drop}
-use borrow.Author.Tests.{lt-ltb}
 use Rattle.lists.specs.Lists.{through, tally}
 use Rattle.lists.proofs.Items.{Through, before_first, one_more, after_last}
 use Rattle.rules.specs.Plain.{Plain}

@@ -1,12 +1,11 @@
 -- How a lookup reads what the rules say: of an entry found, of none, and of numbers that the table refuses.
 -- Assumes nothing.
-use Prim.Native.Nat.{ℕ, zero, suc, ◌^◌, ◌<◌}
+use Prim.Native.Nat.{ℕ, ◌^◌, ◌<◌}
 use mathlib.Core.Path.{◌≡◌, refl, sym, ap, ◌∙◌}
-use mathlib.Core.Bool.{Bool, true, false, not, ◌&&◌, ◌||◌}
+use mathlib.Core.Bool.{Bool, true, false, ◌&&◌}
 use mathlib.Core.List.{List, [], ◌∷◌}
 use native.Mathlib.Omega.{arith}
-use borrow.Author.Tests.{ne_eqb, lt-ltb, ltb-true}
-use lib.Dec.{eqb, ltb}
+use borrow.Author.Tests.{ltb-true}
 use lib.ListN.{get_or}
 use Rattle.lists.specs.Arrays.{place}
 use Rattle.rules.specs.Plain as plain

@@ -1,21 +1,19 @@
 -- A list of a reading: what writes it out, whether its words fit or not, and what turns it away before.
 -- Assumes nothing.
-use Prim.Native.Nat.{ℕ, ◌≤◌, ◌<◌}
-use mathlib.Core.Path.{◌≡◌, refl, sym, ◌∙◌}
+use Prim.Native.Nat.{ℕ}
+use mathlib.Core.Path.{◌≡◌, refl, ◌∙◌}
 use mathlib.Core.Bool.{Bool, true, false}
-use mathlib.Core.List.{List, ◌++◌}
+use mathlib.Core.List.{List}
 use native.Mathlib.Omega.{arith}
-use borrow.Author.Tests.{lt-ltb, le-ltb}
+use borrow.Author.Tests.{lt-ltb}
 use lib.Dec.{ltb}
-use lib.ListN.{length, take, drop, take-append-drop}
-use lib.Seq.{length-take-le}
+use lib.ListN.{length}
 use Rattle.lists.specs.Lists.{concat_map}
 use Rattle.rules.specs.Plain.{Plain}
 use Rattle.rules.specs.Outcome.{too_short}
 use Rattle.rules.specs.Readings.{listing}
-use Rattle.std.specs.Prelude.{Result, Ok, Err}
+use Rattle.std.specs.Prelude.{Result, Err}
 use Rattle.types.specs.declared.refusal.Refusal.{Refusal}
-use Rattle.types.specs.declared.refusal.Refusal.TheVariants.{ListShort}
 use Rattle.types.specs.Refusals.{refusal_number}
 use Rattle.ledger.proofs.Meeting.{numbered}
 use Rattle.readings.specs.Reads.{Reads, Lists}

@@ -8,13 +8,12 @@ use native.Mathlib.Omega.{arith}
 use native.Mathlib.Numerals.{add-one, add-two}
 use borrow.Author.Tests.{lt-ltb, le-ltb}
 use lib.ListN.{length, take, drop, get_or, set, length-set}
-use lib.Seq.{sets, take_all}
+use lib.Seq.{sets}
 use Rattle.std.specs.Int.{from_bool}
 use Rattle.lists.specs.Lists.{cons_if, keep, concat_map}
 use Rattle.lists.proofs.Keep.{length-keep}
 use Rattle.lists.proofs.Listing.{sets_front}
 use Rattle.lists.proofs.Loops.{rest-cons, rest_end}
-use Rattle.lists.proofs.Cuts.{rest-none}
 use Rattle.lists.proofs.Counting.{fill_next}
 use Rattle.rules.specs.Plain as plain
 use Rattle.rules.specs.Plain.{transaction_of, with_entries}
