@@ -43,6 +43,9 @@ impl Layouts {
         if let Some(array) = name.strip_prefix('[') {
             return self.of_array(array);
         }
+        if let Some(inner) = name.strip_prefix("Option<").and_then(|rest| rest.strip_suffix('>')) {
+            return self.of_enum(&[Vec::new(), vec![inner.to_string()]]);
+        }
         match name.rsplit("::").next().unwrap_or(name) {
             "u8" | "bool" => number(1),
             "u16" => number(2),
@@ -155,11 +158,12 @@ fn parts(text: &str) -> Vec<&str> {
     .collect()
 }
 
-/// The types of fields, with or without names.
+/// The types of fields, with or without names. A ghost field takes no room.
 fn types(fields: &[&str]) -> Vec<String> {
     fields
         .iter()
         .map(|field| field.strip_prefix("pub ").unwrap_or(field))
+        .filter(|field| !field.starts_with("ghost "))
         .map(|field| field.split_once(": ").map_or(field, |(_, of)| of))
         .map(|of| of.trim().to_string())
         .collect()
