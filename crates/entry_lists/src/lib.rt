@@ -4,22 +4,20 @@
 // are lent the ledger, so that none copies it.
 #![tactic(auto)]
 
-ghost use Rattle.std.specs.Prelude.{◌≡◌, ◌&&◌, ◌+◌, ◌*◌, ◌≤◌, ◌<◌, ◌^◌, ◌++◌, eqb, length, ℕ, List, Bool, Option, Some};
+ghost use Rattle.std.specs.Prelude.{◌≡◌, ◌&&◌, ◌+◌, ◌*◌, ◌≤◌, ◌<◌, ◌^◌, ◌++◌, eqb, length, List, Option, Some};
 ghost use Rattle.std.proofs.lemmas.List.Edits.{sets};
 ghost use Rattle.rules.specs.Words.{transaction_size, transaction_words};
 ghost use Rattle.types.specs.Transactions.{number_of};
-ghost use Rattle.rules.specs.Readings.{read, ask_questions, list_past_deadline, list_issuers, questions, questions_of, question_words, past_deadline, term_words, issuers_of, issuer_words};
+ghost use Rattle.rules.specs.Readings.{read, ask_questions, list_past_deadline, list_issuers, questions, questions_of, question_words, past_deadline, issuers_of};
 ghost use Rattle.rules.specs.Good.{GoodEntry};
 ghost use Rattle.rules.specs.Numbers.{max_entries};
-ghost use Rattle.rules.specs.Widths.{question_size, term_size, term_room, issuer_size, issuer_room};
+ghost use Rattle.rules.specs.Widths.{question_size};
 ghost use Rattle.entry.specs.Entry.{plain_entry, Fits};
 ghost use Rattle.ledger.specs.Contents.{contents, Held};
 ghost use Rattle.readings.specs.Reads.{Reads};
 ghost use Rattle.entry_lists.specs.Tests.{is_asking, asks_of, is_past, holds_id};
-ghost use Rattle.entry_lists.specs.Runs.{Ran, Picks, item_words};
+ghost use Rattle.entry_lists.specs.Runs.{Ran, Gathers};
 ghost use Rattle.std.specs.Fn.{FnReturnsAt};
-ghost use Rattle.rules.specs.Plain as plain;
-ghost use Rattle.lists.specs.Lists.{keep};
 
 use entry::{Certificate, Entry};
 use ledger::Ledger;
@@ -142,7 +140,7 @@ fn gather<R: AsSlice<u64> + Copy, F: Fn(&Entry) -> Option<R>>(
     requires sizes { (e : _) (r : R) → F.post row_of e (Some r) → length (R.items r) + 1 ≡ size }
     requires room { max_entries * size ≤ length words.old }
     ensures few { result ≤ max_entries }
-    ensures items { (p : plain.Entry → Bool) (row : plain.Entry → List ℕ) → ((x : plain.Entry) → length (item_words row x) ≡ size) → Picks R.items (FnReturnsAt F.Fn row_of) ledger.now.local.0 p row → Ran (item_words row) size (keep p (contents ledger.now).entries) words.old 0 words.new result }
+    ensures items { Gathers R.items (FnReturnsAt F.Fn row_of) ledger.now size words.old words.new result }
 {
     let mut count = 0;
     for slot in &ledger.roster.slots[..ledger.roster.len] {
