@@ -87,7 +87,4 @@ module _ (ws : List ℕ) (f : record_formed ws ≡ true) where
 
   pub transaction-at : (i : ℕ) → i < group_count ws → transaction_at (groups_at ws + group_size ws * i) ws ≡ get_or (transactions ws) i 0
   transaction-at i h =
-      let none = group_terms [] [] in
-      let there : get_or (record_groups ws) i none ≡ group_at ws i (reach ws f i) =
-      ap (λ m. get_or m 0 none) (sym (rest_more none (record_groups ws) i (omega (arith, groups_length ws f))) ∙ group_there ws f i h) in
-      sym (get_or-map (λ (g : Terms). g.transaction) (record_groups ws) i none ∙ ap (λ (g : Terms). g.transaction) there ∙ group_transaction_lem ws i (reach ws f i))
+      sym (get_or-map (λ (g : Terms). g.transaction) (record_groups ws) i none ∙ ap (λ (g : Terms). g.transaction) (group-at ws f i h) ∙ group_transaction_lem ws i (reach ws f i))

@@ -1,5 +1,5 @@
 // Finalization: what a committed block's verdicts resolve.
-ghost use Rattle.std.specs.Prelude.{◌≡◌, true, not, ◌&&◌, []};
+ghost use Rattle.std.specs.Prelude.{◌≡◌, not, ◌&&◌, []};
 ghost use Rattle.lists.specs.Lists.{has, self};
 ghost use Rattle.rules.specs.Plain.{is_core, is_settling, owes};
 ghost use Rattle.rules.specs.Calls.{after_finalization};

@@ -1,9 +1,10 @@
 -- What an entry's fields mean, as an entry of the plain ledger, and that they fit their arrays.
 use Rattle.std.specs.Prelude.{ℕ, ◌≤◌, ◌≡◌, Bool, false, List, map, ltb, length, take}
-use Rattle.lists.specs.Lists.{Every, Ascending, has, include, self, zip_by, cut}
+use Rattle.lists.specs.Lists.{Every, Ascending, any, has, include, self, zip_by, cut}
 use Rattle.rules.specs.Plain as plain
 use Rattle.rules.specs.Words.{edge, with}
 use Rattle.types.specs.Transactions.{number_of}
+use Rattle.types.specs.declared.Shard.{Shard}
 use Rattle.entry.specs.declared.Part.{Part}
 use Rattle.entry.specs.declared.Part.TheVariants.{Whole, Leg, Core, Remainder}
 use Rattle.entry.specs.declared.Certificate.{Certificate}
@@ -97,6 +98,11 @@ pub record Means (p : plain.Entry) (e : Entry) : Type 0 where
 -- lower by shard and then key
 abbrev pub below : plain.Absence → plain.Absence → Bool
 below a b = ltb (plain.absence_key b) (plain.absence_key a)
+
+-- By whatever test of from-shard and id the answers are given, r says whether some edge passes: Says is what is said of an edge that is asked
+-- about.
+abbrev pub FindsEdge : (Shard → ℕ → Bool → Type 0) → Entry → Bool → Type 0
+FindsEdge Says e r = (q : ℕ × ℕ → Bool) → ((from : Shard) (id : ℕ) (b : Bool) → Says from id b → b ≡ q (from.0, id)) → r ≡ any (λ (g : plain.Edge). q (g.from, g.id)) (edges_of e)
 
 abbrev pub is_marked : Entry → ℕ → Bool
 is_marked e r = has self r (take e.marks_len e.marks)

@@ -3,12 +3,11 @@
 
 ghost use Rattle.std.specs.Prelude.{◌≡◌, ◌<◌, MatchResult, ◌&&◌, ◌||◌, true, ◌≤◌, eqb, leb, length, take};
 ghost use Rattle.lists.specs.Lists.{all, has, include, self as itself, filled};
-ghost use Rattle.lists.specs.Arrays.{rank};
-ghost use Rattle.rules.specs.Numbers.{record_key, is_shard};
+ghost use Rattle.rules.specs.Numbers.{record_key};
 
 use lists::fronts::insert_at;
 use lists::slices::contains;
-use lists::sorted::include;
+use lists::sorted::{include, rank};
 use types::{RecordKey, Shard, Time, Transaction};
 
 // Numbered as the paper numbers them.
@@ -150,7 +149,7 @@ impl Entry {
     ghost use Rattle.rules.specs.Plain.{is_covered, issued, issues, owes, remote, remainder};
     ghost use Rattle.rules.specs.Entries.{certified, with_departed_by, with_part, with_marks, marked, read_absent, is_read, is_closed};
     ghost use Rattle.rules.specs.Good.{GoodEntry};
-    ghost use Rattle.entry.specs.Entry.{plain_entry, plain_absence, certificate_number, absence, absences_of, below, is_marked, Blank, Means, RoomForAbsence, RoomForMark};
+    ghost use Rattle.entry.specs.Entry.{plain_entry, plain_absence, certificate_number, absence, is_marked, FindsEdge, Blank, Means, RoomForAbsence, RoomForMark};
 
     // What a place of the arena holds before an entry is put there.
     pub fn blank() -> Entry
@@ -205,26 +204,34 @@ impl Entry {
     }
 
     // Whether a record names it or a cell was read absent for it.
-    pub fn covered(self) -> bool
-        ensures { result ≡ is_covered (plain_entry self) }
+    pub fn covered(&self) -> bool
+        ensures { result ≡ is_covered (plain_entry self.now) }
     {
         self.departed_by.0 > 0 || self.absences_len > 0
     }
 
-    // Whether an edge from local has this record key.
-    pub fn issues(self, local: Shard, r: RecordKey) -> bool
-        ensures { result ≡ issues local.0 r.0 (plain_entry self).terms }
+    // Whether some edge's from-shard and id pass.
+    pub fn has_edge<F: Fn(Shard, u64) -> bool>(&self, passes: F) -> bool
+        requires { (from : _) (id : _) → F.pre passes from id }
+        ensures { FindsEdge (F.post passes) self.now result }
     {
         let n = self.edges_len as usize;
         self.froms[..n]
             .iter()
             .zip(&self.ids[..n])
-            .any(|(from, id)| is_issue(Shard(*from), *id, local, r))
+            .any(|(from, id)| passes(Shard(*from), *id))
+    }
+
+    // Whether an edge from local has this record key.
+    pub fn issues(&self, local: Shard, r: RecordKey) -> bool
+        ensures { result ≡ issues local.0 r.0 (plain_entry self.now).terms }
+    {
+        self.has_edge(|from, id| is_issue(from, id, local, r))
     }
 
     // Whether an edge from local is owed.
-    pub fn owes(self, local: Shard) -> bool
-        ensures { result ≡ owes local.0 (plain_entry self).terms }
+    pub fn owes(&self, local: Shard) -> bool
+        ensures { result ≡ owes local.0 (plain_entry self.now).terms }
     {
         let n = self.edges_len as usize;
         self.froms[..n]
@@ -234,33 +241,21 @@ impl Entry {
     }
 
     // Whether local does not own some route of it.
-    pub fn reaches_beyond(self, local: Shard) -> bool
-        requires { is_shard local.0 ≡ true }
-        ensures { result ≡ filled (remote local.0 (plain_entry self).terms) }
+    pub fn reaches_beyond(&self, local: Shard) -> bool
+        ensures { result ≡ filled (remote local.0 (plain_entry self.now).terms) }
     {
         let n = self.routes_len as usize;
         self.routes[..n].iter().any(|route| !local.owns(*route))
     }
 
     // Whether this cell was read absent for it.
-    pub fn is_read(self, shard: Shard, key: u64) -> bool
-        ensures { result ≡ is_read (absence shard.0 key) (plain_entry self) }
+    pub fn is_read(&self, shard: Shard, key: u64) -> bool
+        ensures { result ≡ is_read (absence shard.0 key) (plain_entry self.now) }
     {
         let n = self.absences_len as usize;
         self.absences[..n]
             .iter()
             .any(|a| a.is(Absence { shard, key }))
-    }
-
-    // How many of its absences, from the front, are lower than this one.
-    fn rank(self, x: Absence) -> usize
-        ensures { result ≡ rank (below (plain_absence x)) (absences_of self) }
-    {
-        let n = self.absences_len as usize;
-        self.absences[..n]
-            .iter()
-            .take_while(|a| a.is_below(x))
-            .count()
     }
 
     // The entry with this cell read absent.
@@ -273,7 +268,7 @@ impl Entry {
         }
         let n = self.absences_len as usize;
         let x = Absence { shard, key };
-        let k = self.rank(x);
+        let k = rank(&self.absences[..n], |a| a.is_below(x));
         let mut absences = self.absences;
         insert_at(&mut absences, n, k, x);
         let mut e = self;
@@ -283,8 +278,8 @@ impl Entry {
     }
 
     // Whether this record was settled or returned.
-    pub fn has_mark(self, r: RecordKey) -> bool
-        ensures { result ≡ has itself r.0 (plain_entry self).marks }
+    pub fn has_mark(&self, r: RecordKey) -> bool
+        ensures { result ≡ has itself r.0 (plain_entry self.now).marks }
     {
         let n = self.marks_len as usize;
         contains(&self.marks[..n], r.0)
@@ -331,26 +326,23 @@ impl Entry {
 
     // Whether an edge starts from local.
     #[tactic(auto, using(crate::proofs::Shape::fits_of, crate::proofs::Edges::issued_is), unfolding(crate::specs::Entry::plain_entry))]
-    fn has_issued(self, local: Shard) -> bool
-        ensures { result ≡ filled (issued local.0 (plain_entry self).terms) }
+    fn has_issued(&self, local: Shard) -> bool
+        ensures { result ≡ filled (issued local.0 (plain_entry self.now).terms) }
     {
         let n = self.edges_len as usize;
         contains(&self.froms[..n], local.0)
     }
 
     // Whether each record that it issued is marked.
-    fn all_marked(self, local: Shard) -> bool
-        ensures { result ≡ all (is_marked self) (issued local.0 (plain_entry self).terms) }
+    fn all_marked(&self, local: Shard) -> bool
+        ensures { result ≡ all (is_marked self.now) (issued local.0 (plain_entry self.now).terms) }
     {
-        let n = self.edges_len as usize;
-        let is_open = |(from, id): (&u64, &u64)| *from == local.0
-            && !self.has_mark(types::record_key(*id));
-        !self.froms[..n].iter().zip(&self.ids[..n]).any(is_open)
+        !self.has_edge(|from, id| from == local && !self.has_mark(types::record_key(id)))
     }
 
     // Whether all that it issued, which is something, is settled or returned.
-    pub fn is_closed(self, local: Shard) -> bool
-        ensures { result ≡ is_closed local.0 (plain_entry self) }
+    pub fn is_closed(&self, local: Shard) -> bool
+        ensures { result ≡ is_closed local.0 (plain_entry self.now) }
     {
         self.part.is_settling() && self.has_issued(local) && self.all_marked(local)
     }

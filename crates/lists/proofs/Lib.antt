@@ -18,3 +18,4 @@ pub mod Sets
 pub mod Std
 pub mod Listing
 pub mod Items
+pub mod Places

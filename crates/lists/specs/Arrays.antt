@@ -19,6 +19,11 @@ module _ {A : Type 0} where
   rank p [] = 0
   rank p (x ∷ l) = cond (p x) (suc (rank p l)) 0
 
+-- By whatever test the answers are given, so many elements from the front pass before the first that does not: Says is what is said of each
+-- element that is asked about.
+abbrev pub Ranks : {A : Type 0} → (A → Bool → Type 0) → List A → ℕ → Type 0
+Ranks {A} Says l n = (p : A → Bool) → ((x : A) (b : Bool) → Says x b → b ≡ p x) → n ≡ rank p l
+
 -- whether the first element has this key
 abbrev pub leads : {A : Type 0} → (A → ℕ) → ℕ → List A → Bool
 leads key t [] = false
@@ -47,11 +52,11 @@ module _ {A : Type 0} (a : List A) (n : ℕ) where
     pub front : take (n - 1) b ≡ remove_at k (take n a)
     pub whole : remove_at (n - 1) b ≡ remove_at k a
 
--- the first m of b are those of the first n of a whose flag is up
-pub record Kept {A : Type 0} (stay : List Bool) (a : List A) (n : ℕ) (b : List A) (m : ℕ) : Type 0 where
+-- a flag stands for each of the first of a: the first m of b are those whose flag is up
+pub record Kept {A : Type 0} (stay : List Bool) (a b : List A) (m : ℕ) : Type 0 where
   pub size : length b ≡ length a
-  pub room : m ≤ n
-  pub front : take m b ≡ keep_by stay (take n a)
+  pub room : m ≤ length stay
+  pub front : take m b ≡ keep_by stay (take (length stay) a)
 
 -- the first m of b are the first n of a with x among them
 pub record Included (a : List ℕ) (n x : ℕ) (b : List ℕ) (m : ℕ) : Type 0 where

@@ -1,5 +1,6 @@
-// What is kept in the first n of a slice: putting in, taking out and keeping some, each in place.
-ghost use Rattle.std.specs.Prelude.{◌≡◌, Bool, false, ◌≤◌, ◌<◌, ◌-◌, length, take};
+// What is kept in the first n of a slice: putting in, taking out and keeping some, each in place. The count is handed in beside the slice,
+// since putting in writes one place more, and what stands behind the front, as the roster's free slots do, stays.
+ghost use Rattle.std.specs.Prelude.{◌≤◌, ◌<◌, length};
 ghost use Rattle.lists.specs.Arrays.{Inserted, Removed, Kept};
 
 // x put in at k: those from k on move up by one.
@@ -19,14 +20,14 @@ pub fn remove_at<T: Copy>(s: &mut [T], n: usize, k: usize)
     s.copy_within(k + 1..n, k);
 }
 
-// Those whose flag is up moved to the front in their order; how many they are.
-pub fn retain<T: Copy>(s: &mut [T], n: usize, stay: &[bool]) -> usize
-    requires { (n ≤ length s.old) × (n ≤ length stay.now) }
-    ensures { Kept (take n stay.now) s.old n s.new result }
+// Those of the first whose flag is up moved to the front in their order, a flag for each of the first; how many they are.
+pub fn retain<T: Copy>(s: &mut [T], stay: &[bool]) -> usize
+    requires { length stay.now ≤ length s.old }
+    ensures { Kept stay.now s.old s.new result }
 {
     let mut kept = 0;
-    for i in 0..n {
-        if stay[i] {
+    for (i, stays) in stay.iter().enumerate() {
+        if *stays {
             s[kept] = s[i];
             kept += 1;
         }

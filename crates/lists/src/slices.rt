@@ -64,7 +64,7 @@ pub fn lists_rise(sizes: &[u64], joined: &[u64]) -> bool
     true
 }
 
-// The numbers in the front of an array, as words and as bytes.
+// The numbers in the front of an array.
 pub fn front<const N: usize>(s: &[u64]) -> [u64; N]
     requires { length s.now ≤ N }
     ensures { (length result ≡ N) × (take (length s.now) result ≡ s.now) }
@@ -74,6 +74,7 @@ pub fn front<const N: usize>(s: &[u64]) -> [u64; N]
     out
 }
 
+// As bytes, one by one: `array::from_fn` is no plainer, since it would read each of the N places, and past the slice's end too.
 pub fn bytes<const N: usize>(s: &[u64]) -> [u8; N]
     requires { (length s.now ≤ N) × (all (λ n. leb n 255) s.now ≡ true) }
     ensures { (length result ≡ N) × (take (length s.now) result ≡ s.now) }

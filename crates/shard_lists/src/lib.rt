@@ -4,7 +4,7 @@
 
 pub mod set;
 
-ghost use Rattle.std.specs.Prelude.{◌≡◌, true, map, ◌≤◌, leb, length, take};
+ghost use Rattle.std.specs.Prelude.{◌≡◌, true, map, ◌≤◌, leb, length};
 ghost use Rattle.lists.specs.Lists.{keep, any, include_all, self};
 ghost use Rattle.rules.specs.Numbers.{is_shard, owns, shard_for_route};
 ghost use Rattle.rules.specs.Plain.{is_remote};

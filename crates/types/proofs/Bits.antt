@@ -1,7 +1,8 @@
 -- Bits of numbers: where the highest one bit is, what the leading zeros say of it, and a route with a one bit put in front.
 -- Assumes nothing.
-use Rattle.std.proofs.Common.{◌≡◌, ℕ, zero, suc, ◌+◌, ◌-◌, ◌/◌, ◌^◌, ◌<◌, ◌≤◌, Bool, true, false, cond, ◌&&◌, eqb, ltb, leb, sym, refl, ap, ◌∙◌, add_comm, arith, pow_pos, pow_mono, pow-add, ltb-true, eq-eqb, eqb-true, leb-false, leb-true}
-use native.Mathlib.Nat.{add-mul-div_right, div-div-eq-div-mul, pow-succ'}
+use Rattle.std.proofs.Common.{◌≡◌, ℕ, zero, suc, ◌+◌, ◌-◌, ◌/◌, ◌^◌, ◌<◌, ◌≤◌, Bool, true, false, cond, ◌&&◌, eqb, ltb, leb, sym, refl, ap, ◌∙◌, add_comm, arith, pow_pos, pow_mono, pow-add, ltb-true, eq-eqb, eqb-true, leb-false, leb-true, le-leb, min, max}
+use Rattle.std.proofs.Math.Nat.{min-eq_left, min-eq_right, max-eq_left}
+use native.Mathlib.Nat.{div-eq_of_lt, add-mul-div_right, div-div-eq-div-mul, pow-succ'}
 use lib.Count.{count_leading_zeros, leading_top}
 use Rattle.lists.proofs.Tests.{and_left, and_right, same_test}
 use Rattle.rules.specs.Numbers.{is_shard, highest_bit, depth, owns, top_bits, shard_for_route}
@@ -34,6 +35,52 @@ highest (suc limit) n j l h k = go (highest limit n j l h) (leb (2 ^ suc limit) 
         let near = lower (suc limit) j n (leb-true (2 ^ suc limit) n e) h in
         omega arith
     go rest false e = rest (lower j limit n l (leb-false (2 ^ suc limit) n e))
+
+-- a number past the limit has it for its depth
+capped : (limit n : ℕ) → 2 ^ limit ≤ n → highest_bit limit n ≡ limit
+capped zero n h = refl
+capped (suc limit) n h = rw (le-leb (2 ^ suc limit) n h)
+
+-- the depth by the place of the highest one bit
+pub depth-is : (n k : ℕ) → 2 ^ k ≤ n → n < 2 ^ suc k → min k 32 ≡ depth n
+unfolding depth
+depth-is n k l h = by_size (leb k 32) refl
+  where
+    by_size : (b : Bool) → leb k 32 ≡ b → min k 32 ≡ highest_bit 32 n
+    by_size true e =
+        let small = leb-true k 32 e in
+        omega (arith, min-eq_left small, highest 32 n k l h small)
+    by_size false e =
+        let large = leb-false k 32 e in
+        let up = pow_mono large in
+        omega (arith, min-eq_right (let z : 32 ≤ k = omega arith in z), capped 32 n (omega arith))
+
+-- 0 has the depth of 1
+pub depth-some : (n : ℕ) → depth (max n 1) ≡ depth n
+unfolding depth
+depth-some zero = refl
+depth-some (suc n) = ap depth (max-eq_left (let z : 1 ≤ suc n = omega arith in z))
+
+-- the highest one bit is in a number that is not 0, and no higher than the limit
+bit_within : (limit n : ℕ) → 1 ≤ n → 2 ^ highest_bit limit n ≤ n
+bit_within zero n h = h
+bit_within (suc limit) n h = go (bit_within limit n h) (leb (2 ^ suc limit) n) refl
+  where
+    go : 2 ^ highest_bit limit n ≤ n → (b : Bool) → leb (2 ^ suc limit) n ≡ b → 2 ^ cond b (suc limit) (highest_bit limit n) ≤ n
+    go below true e = leb-true (2 ^ suc limit) n e
+    go below false e = below
+
+bit_limit : (limit n : ℕ) → highest_bit limit n ≤ limit
+bit_limit zero n = omega arith
+bit_limit (suc limit) n = elim (leb (2 ^ suc limit) n) as (λ b. cond b (suc limit) (highest_bit limit n) ≤ suc limit) [ true ↦ omega arith | false ↦ omega (arith, bit_limit limit n) ]
+
+pub depth-within : (n : ℕ) → 1 ≤ n → 2 ^ depth n ≤ n
+unfolding depth
+depth-within n h = bit_within 32 n h
+
+pub depth-small : (n : ℕ) → depth n ≤ 32
+unfolding depth
+depth-small n = bit_limit 32 n
 
 -- what is known of a shard: where its highest one bit is
 pub record Topped (n : ℕ) : Type 0 where
@@ -72,9 +119,14 @@ moved a b n h =
     (λ e. eq-eqb (b + a) n (omega (arith, eqb-true a (n - b) e)))
 
 -- the comparison of one shift is ownership
-pub owned : (n route : ℕ) → Topped n → eqb ((route / 2 + 2 ^ 63) / 2 ^ count_leading_zeros 64 n) n ≡ owns n route
+pub owned-at : (n route s : ℕ) → depth n + s ≡ 63 → 2 ^ depth n ≤ n → eqb ((route / 2 + 2 ^ 63) / 2 ^ s) n ≡ owns n route
 unfolding owns
-owned n route t =
-    ap (λ (x : ℕ). eqb x n) (led t.top (count_leading_zeros 64 n) route (omega (arith, t.zeros)))
-    ∙ moved (top_bits t.top route) (2 ^ t.top) n t.least
-    ∙ ap (λ (x : ℕ). eqb (top_bits x route) (n - 2 ^ x)) (sym t.deep)
+owned-at n route s e h = ap (λ (x : ℕ). eqb x n) (led (depth n) s route e) ∙ moved (top_bits (depth n) route) (2 ^ depth n) n h
+
+-- by the definition 0, which is no shard, owns every route
+pub owned-zero : (route : ℕ) → route < 2 ^ 64 → true ≡ owns 0 route
+unfolding owns depth
+owned-zero route h = ap (λ (x : ℕ). eqb x 0) (sym (div-eq_of_lt h))
+
+pub owned : (n route : ℕ) → Topped n → eqb ((route / 2 + 2 ^ 63) / 2 ^ count_leading_zeros 64 n) n ≡ owns n route
+owned n route t = owned-at n route (count_leading_zeros 64 n) (omega (arith, t.zeros, t.deep)) (rw t.deep t.least)

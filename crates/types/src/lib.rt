@@ -81,21 +81,19 @@ impl Transaction {
 }
 
 impl Shard {
-    // How far below the root the shard lies.
+    // How far below the root the shard lies; of a number that is no shard what the definition says, 0 or 32.
     pub fn depth(self) -> u32
-        requires { is_shard self.0 ≡ true }
         ensures { result ≡ depth self.0 }
     {
-        63 - self.0.leading_zeros()
+        self.0.max(1).ilog2().min(32)
     }
 
     // Whether the route's top bits are the shard's path: led by a one bit the route is compared in one shift by what is not depth, and
-    // the root, which owns all, is no case of its own.
+    // the root, which owns all, is no case of its own. The definition says yes of 0, which is no shard.
     pub fn owns(self, route: u64) -> bool
-        requires { is_shard self.0 ≡ true }
         ensures { result ≡ owns self.0 route }
     {
-        (led(route) >> (63 - self.depth())) == self.0
+        self.0 == 0 || (led(route) >> (63 - self.depth())) == self.0
     }
 }
 

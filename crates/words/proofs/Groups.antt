@@ -3,7 +3,7 @@
 -- Assumes nothing.
 use Prim.Native.Nat.{ℕ, zero, suc, ◌+◌, ◌*◌, ◌≤◌, ◌<◌}
 use mathlib.Core.Path.{◌≡◌, refl, sym, ap, ◌∙◌}
-use mathlib.Core.Bool.{true, false, ◌&&◌}
+use mathlib.Core.Bool.{true, ◌&&◌}
 use mathlib.Core.List.{List, [], ◌∷◌}
 use native.Mathlib.Omega.{arith}
 use lib.Dec.{eqb, leb}
@@ -13,7 +13,8 @@ use borrow.Author.Tests.{leb-true, eqb-true}
 use Rattle.lists.specs.Lists.{all, total, self, part, cut}
 use Rattle.lists.proofs.Tests.{and_true}
 use Rattle.lists.proofs.Keep.{each_of}
-use Rattle.lists.proofs.Cuts.{rest_tail, total_more, total-within, total_split, part_length, part_at, cut-length, cut_more, cut-rest, all-at, all_end}
+use Rattle.lists.proofs.Cuts.{rest_tail, total_more, total-within, total_split, part_length, part_at, cut-length, cut_more, cut-rest, all-at, rest_more}
+use Rattle.rules.specs.Plain.{Terms}
 use Rattle.rules.specs.Words.{word, within, transaction_at, group_count, reach_sizes, group_size, groups_at, reaches_at, group_terms, groups_from, record_groups, record_tests, record_formed, timed}
 use Rattle.words.specs.Taken.{group_at, figures_timed}
 
@@ -123,18 +124,13 @@ group_transaction_lem ws i at =
 pub group_timed_lem : (ws : List ℕ) (i at : ℕ) → timed (group_at ws i at) ≡ figures_timed (groups_at ws + group_size ws * i) ws
 group_timed_lem ws i at = let p = groups_at ws + 5 * i in rw (figure ws p 1, figure ws p 2, figure ws p 3)
 
--- a loop over the groups that tests their times, at turn i, where the group's figures start at p
-module _ (ws : List ℕ) (f : record_formed ws ≡ true) (i p : ℕ) (h : i < group_count ws) (q : p ≡ groups_at ws + group_size ws * i) where
-  timed_more : all timed (drop i (record_groups ws)) ≡ figures_timed p ws && all timed (drop (i + 1) (record_groups ws))
-  timed_more =
-      rw (group_there ws f i h)
-      (ap (λ b. b && all timed (drop (i + 1) (record_groups ws))) (group_timed_lem ws i (reach ws f i) ∙ ap (λ k. figures_timed k ws) (sym q)))
+-- the group at a place of all, and what its figures say of its times
+abbrev pub none : Terms
+none = group_terms [] []
 
-  pub timed_hit : figures_timed p ws ≡ true → all timed (drop (i + 1) (record_groups ws)) ≡ all timed (drop i (record_groups ws))
-  timed_hit t = sym (timed_more ∙ ap (λ b. b && all timed (drop (i + 1) (record_groups ws))) t)
+module _ (ws : List ℕ) (f : record_formed ws ≡ true) (i : ℕ) (h : i < group_count ws) where
+  pub group-at : get_or (record_groups ws) i none ≡ group_at ws i (reach ws f i)
+  group-at = ap (λ m. get_or m 0 none) (sym (rest_more none (record_groups ws) i (omega (arith, groups_length ws f))) ∙ group_there ws f i h)
 
-  pub timed_miss : figures_timed p ws ≡ false → all timed (drop i (record_groups ws)) ≡ false
-  timed_miss t = timed_more ∙ ap (λ b. b && all timed (drop (i + 1) (record_groups ws))) t
-
-pub timed_end : (ws : List ℕ) (f : record_formed ws ≡ true) (i : ℕ) → group_count ws ≤ i → all timed (drop i (record_groups ws)) ≡ true
-timed_end ws f i h = all_end timed (record_groups ws) i (omega (arith, groups_length ws f))
+  pub timed-at : figures_timed (groups_at ws + group_size ws * i) ws ≡ timed (get_or (record_groups ws) i none)
+  timed-at = sym (ap timed group-at ∙ group_timed_lem ws i (reach ws f i))

@@ -71,12 +71,7 @@ impl<'a> Record<'a> {
         ensures { result ≡ record_timed self.entry.words.now }
     {
         let n = self.len();
-        for i in 0..n {
-            if !group_timed(self.words, 2 + n + 5 * i) {
-                return false;
-            }
-        }
-        true
+        (0..n).all(|i| group_timed(self.words, 2 + n + 5 * i))
     }
 
     // The transaction of the i-th group.

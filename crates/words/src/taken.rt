@@ -1,5 +1,5 @@
 // The entries that words give.
-ghost use Rattle.std.specs.Prelude.{◌≡◌, ◌≤◌, length};
+ghost use Rattle.std.specs.Prelude.{◌≤◌, length};
 ghost use Rattle.entry.specs.Entry.{plain_part, certificate_number, Means};
 ghost use Rattle.words.specs.Taken.{bare_entry};
 

@@ -1,3 +1,4 @@
+-- A test of from-shards and kinds side by side is one of the edges.
 use Rattle.std.proofs.Common.{rules, tests, sym, ◌∙◌, eqb, ◌&&◌, take, ℕ}
 use Rattle.std.proofs.lemmas.Iterator.{YieldsList-from_slice, YieldsList-from_zip}
 use Rattle.std.proofs.lemmas.Iterator.Search.{any_from_yields_List}
@@ -10,8 +11,8 @@ pub returns : goal.returns
 unfolding plain_entry
 returns c =
     let a = c.args in
-    let n = a.self.edges_len in
+    let n = a.self.now.edges_len in
     any_from_yields_List (λ (x : ℕ × ℕ). eqb x.0 a.local.0 && eqb x.1 1) c.any.new.self _ _ c.any.ensures.ran
-    (YieldsList-from_zip (YieldsList-from_slice (take n a.self.froms) cc) (YieldsList-from_slice (take n a.self.kinds) cc)) (λ x b q k. search (rules, tests))
-    ∙ sym (any-kinds a.self (fits_of a.self) (λ x. eqb x.0 a.local.0 && eqb x.1 1))
-    ∙ sym (owes_any a.local.0 (plain_entry a.self).terms)
+    (YieldsList-from_zip (YieldsList-from_slice (take n a.self.now.froms) cc) (YieldsList-from_slice (take n a.self.now.kinds) cc)) (λ x b q k. search (rules, tests))
+    ∙ sym (any-kinds a.self.now (fits_of a.self.now) (λ x. eqb x.0 a.local.0 && eqb x.1 1))
+    ∙ sym (owes_any a.local.0 (plain_entry a.self.now).terms)

@@ -1,3 +1,4 @@
+-- Some route is not owned where one is left of those that are not.
 use Rattle.std.proofs.Common.{rules, tests, sym, ◌∙◌, take}
 use Rattle.std.proofs.lemmas.Iterator.{YieldsList-from_slice}
 use Rattle.std.proofs.lemmas.Iterator.Search.{any_from_yields_List}
@@ -10,6 +11,6 @@ pub returns : goal.returns
 unfolding plain_entry
 returns c =
     let a = c.args in
-    let rs = take a.self.routes_len a.self.routes in
+    let rs = take a.self.now.routes_len a.self.now.routes in
     any_from_yields_List (is_remote a.local.0) c.any.new.self _ _ c.any.ensures.ran (YieldsList-from_slice rs cc) (λ x b q k. search (rules, tests))
     ∙ sym (filled-kept (is_remote a.local.0) rs)

@@ -1,8 +1,10 @@
-use Rattle.std.proofs.Common.{refl, sym, ◌∙◌, arith}
+-- A cell that was read already stays as it is; else it is put in where it ranks.
+use Rattle.std.proofs.Common.{refl, sym, ◌∙◌, arith, rules, tests, take}
+use Rattle.lists.proofs.Loops.{map-rank}
 use Rattle.entry.specs.Entry.{plain_entry}
 use Rattle.lists.proofs.Order.{include-known}
 use Rattle.rules.specs.Plain.{absence_key}
-use Rattle.entry.specs.Entry.{absence, absences_of}
+use Rattle.entry.specs.Entry.{absence, absences_of, below, plain_absence}
 use Rattle.entry.proofs.Shape.{fits_of}
 use Rattle.entry.proofs.Put.{absence-room, absence-rank, absence-put}
 use Rattle.entry.proofs.Entry.with_absence.Goals as goal
@@ -21,7 +23,8 @@ unfolding plain_entry
 insert_at-requires c =
     let a = c.args in
     let few = absence-room a.self a.shard.0 a.key c.requires (sym c.is_read.ensures ∙ c.if-is_read.false) in
-    (omega (arith, c.rank-k.ensures, absence-rank a.self a.shard.0 a.key c.requires), omega (arith, few, (fits_of a.self).absences))
+    let k = c.rank-k.ensures (λ x. below (absence a.shard.0 a.key) (plain_absence x)) (λ x b q. search (rules, tests)) ∙ sym (map-rank plain_absence (below (absence a.shard.0 a.key)) (take a.self.absences_len a.self.absences)) in
+    (omega (arith, k, absence-rank a.self a.shard.0 a.key c.requires), omega (arith, few, (fits_of a.self).absences))
 
 pub returns : goal.returns
 unfolding plain_entry
@@ -30,6 +33,7 @@ returns c =
     let f = fits_of a.self in
     let new = sym c.is_read.ensures ∙ c.if-is_read.false in
     let few = absence-room a.self a.shard.0 a.key c.requires new in
+    let k = c.rank-k.ensures (λ x. below (absence a.shard.0 a.key) (plain_absence x)) (λ x b q. search (rules, tests)) ∙ sym (map-rank plain_absence (below (absence a.shard.0 a.key)) (take a.self.absences_len a.self.absences)) in
     record {
       fits = record {
         routes_len = f.routes_len;
@@ -48,5 +52,5 @@ returns c =
         absences = c.insert_at.ensures.size ∙ f.absences;
         marks = f.marks;
       };
-      plain = rw (absence-put a.self a.shard.0 a.key c.requires _ _ _ refl new c.rank-k.ensures c.insert_at.ensures);
+      plain = rw (absence-put a.self a.shard.0 a.key c.requires _ _ _ refl new k c.insert_at.ensures);
     }

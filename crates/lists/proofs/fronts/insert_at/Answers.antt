@@ -1,3 +1,4 @@
+-- Those from k on moved up by one, and x put where the first of them stood.
 use Rattle.std.proofs.Common.{◌∙◌, ap, arith, rules, take, slice_set, ◌+◌}
 use Rattle.lists.proofs.Std.{put_in, put_whole}
 use Rattle.lists.proofs.fronts.insert_at.Goals as goal

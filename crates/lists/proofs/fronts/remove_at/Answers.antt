@@ -1,3 +1,4 @@
+-- Those behind k moved down by one.
 use Rattle.std.proofs.Common.{◌∙◌, ap, arith, rules, take, ◌-◌}
 use Rattle.lists.specs.Arrays.{remove_at}
 use Rattle.lists.proofs.Std.{taken_out, taken_whole}

@@ -1,3 +1,4 @@
+-- The library tests neighbours by a closure, which is <.
 use Rattle.std.proofs.Common.{ltb, rules, tests}
 use Rattle.std.proofs.lemmas.Fn.{always_returns_same}
 use Rattle.lists.proofs.Cuts.{rises_by}
