@@ -8,7 +8,7 @@ use lib.ListN.{length, take, get_or, length-map, get_or-map}
 use lib.Seq.{length-take-le}
 use Rattle.lists.proofs.Pairs.{read_take}
 use Rattle.rules.specs.Plain as plain
-use Rattle.store.specs.Departures.{Sound, on_file, plain_departure}
+use Rattle.store.specs.Departures.{on_file, plain_departure}
 use Rattle.store.specs.declared.departures.Departure.{Departure}
 use Rattle.store.specs.declared.departures.Departures.{Departures}
 
@@ -19,11 +19,11 @@ module _ (x : Departures) where
   pub all-front : take x.len (all x) ≡ on_file x
   all-front = read_take plain_departure x.len x.items
 
-  pub all-length : Sound x → length (all x) ≡ 32
-  all-length h = length-map x.items plain_departure ∙ h.item_length
+  pub all-length : length (all x) ≡ 32
+  all-length = length-map x.items plain_departure ∙ x.item_length
 
   pub all-at : (i : ℕ) (d : Departure) → get_or (all x) i (plain_departure d) ≡ plain_departure (get_or x.items i d)
   all-at i d = get_or-map plain_departure x.items i d
 
-  pub file-length : Sound x → length (on_file x) ≡ x.len
-  file-length h = ap length (sym all-front) ∙ length-take-le x.len (all x) (omega (arith, all-length h, h.room))
+  pub file-length : length (on_file x) ≡ x.len
+  file-length = ap length (sym all-front) ∙ length-take-le x.len (all x) (omega (arith, all-length, x.room))

@@ -1,6 +1,6 @@
 -- Where transactions are words, the key of a pair says what its record and its transaction say.
 -- Assumes nothing.
-use Prim.Native.Nat.{ℕ, ◌≤◌, ◌<◌}
+use Prim.Native.Nat.{ℕ, ◌≤◌, ◌<◌, ◌^◌}
 use mathlib.Core.Path.{◌≡◌, sym, ◌∙◌}
 use mathlib.Core.Bool.{true, false}
 use mathlib.Core.List.{List}
@@ -16,12 +16,14 @@ use Rattle.lists.proofs.Keep.{any_same, every_member, every_always, every_more}
 use Rattle.lists.proofs.Order.{by_order}
 use Rattle.lists.proofs.Ranked.{at-rank, rank_most, rank_least}
 use Rattle.lists.proofs.Distinct.{every_at}
-use Rattle.lists.proofs.Parts.{every_take, every_zip_by}
+use Rattle.lists.proofs.Parts.{every_zip_by}
 use Rattle.lists.proofs.Pairs.{rank_same}
 use Rattle.rules.specs.Index.{Pair, pair_key, names}
 use Rattle.store.specs.Issuers.{pair, pairs_in, is_pair, is_before}
 use Rattle.store.specs.declared.issuers.Issuers.{Issuers}
-use Rattle.store.proofs.Typed.{Word}
+
+abbrev pub Word : ℕ → Type 0
+Word n = n < 2 ^ 64
 
 abbrev pub OfWord : Pair → Type 0
 OfWord q = Word q.transaction
@@ -88,8 +90,8 @@ module _ (r t : ℕ) (w : Word t) where
     pub leads-none : (i : ℕ) → length l ≤ i → leads pair_key (pair_key (pair r t)) (drop i l) ≡ false
     leads-none i h = rw (drop_of_length-le l h)
 
-pub pairs-words : (x : Issuers) → Every Word x.transactions → Every OfWord (pairs_in x)
-pairs-words x v =
+pub pairs-words : (x : Issuers) → Every OfWord (pairs_in x)
+pairs-words x =
     every_zip_by (λ r. Unit {0}) Word OfWord pair (λ r t u w. w) (take x.len x.records) (take x.len x.transactions)
     (every_always (λ r. Unit {0}) (λ r. tt) (take x.len x.records))
-    (every_take Word x.len x.transactions v)
+    x.words

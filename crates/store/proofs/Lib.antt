@@ -1,7 +1,8 @@
+pub mod Shape
+pub mod Kept
 pub mod Rosters
 pub mod Pairs
 pub mod Filed
-pub mod Typed
 pub mod Keyed
 pub mod Dropping
 pub mod Keeping

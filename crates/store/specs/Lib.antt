@@ -1,3 +1,5 @@
+pub mod Props
+pub mod Stored
 pub mod Roster
 pub mod Issuers
 pub mod Departures

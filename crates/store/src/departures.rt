@@ -1,10 +1,9 @@
 // The departures on file, by rising shard: where each departed shard's chain was cut, and until when what it left is readable.
-ghost use Rattle.std.specs.Prelude.{◌≡◌, ◌≤◌, ◌<◌, [], take};
-ghost use Rattle.lists.specs.Lists.{change, keep_by};
-ghost use Rattle.lists.specs.Arrays.{place, rank, insert_at};
+ghost use Rattle.std.specs.Prelude.{◌≡◌, ◌≤◌, ◌<◌, length, map, take};
+ghost use Rattle.lists.specs.Lists.{Ascending};
 ghost use Rattle.rules.specs.Plain.{shard_of};
-ghost use Rattle.rules.specs.Calls.{departed, stamped};
-ghost use Rattle.store.specs.Departures.{Sound, Holds, Rising, on_file, plain_departure, is_of, is_under, room_for};
+ghost use Rattle.store.specs.Props.{Ascending-prop};
+ghost use Rattle.store.specs.Stored.{plain_departure};
 
 use lists::fronts;
 use types::{Shard, Time};
@@ -22,9 +21,14 @@ pub struct Departure {
 pub struct Departures {
     pub items: [Departure; 32],
     pub len: usize,
+    pub ghost room: { len ≤ 32 },
+    pub ghost item_length: { length items ≡ 32 },
+    pub ghost rising: { Ascending shard_of (map plain_departure (take len items)) } by { Ascending-prop shard_of (map plain_departure (take len items)) },
 }
 
 impl Departure {
+    ghost use Rattle.rules.specs.Calls.{stamped};
+
     // The departure stamped, unless it is stamped already.
     fn with_stamp(self, until: Time) -> Departure
         ensures { plain_departure result ≡ stamped until.0 (plain_departure self) }
@@ -37,6 +41,12 @@ impl Departure {
 }
 
 impl Departures {
+    ghost use Rattle.std.specs.Prelude.{[]};
+    ghost use Rattle.lists.specs.Lists.{change, keep_by};
+    ghost use Rattle.lists.specs.Arrays.{place, rank, insert_at};
+    ghost use Rattle.rules.specs.Calls.{departed, stamped};
+    ghost use Rattle.store.specs.Departures.{Holds, on_file, is_of, is_under, room_for};
+
     pub fn new() -> Departures
         ensures { Holds [] result }
     {
@@ -52,7 +62,6 @@ impl Departures {
     }
 
     pub fn find(self, shard: Shard) -> Option<usize>
-        requires { Sound self }
         ensures { result ≡ place (is_of shard.0) 0 (on_file self) }
     {
         self.items[..self.len].iter().position(|d| d.shard == shard)
@@ -60,7 +69,6 @@ impl Departures {
 
     // How many departures are of a lower shard.
     fn rank(self, shard: Shard) -> usize
-        requires { Sound self }
         ensures { result ≡ rank (is_under shard.0) (on_file self) }
     {
         self.items[..self.len]
@@ -71,7 +79,7 @@ impl Departures {
 
     // The departure put in at k.
     fn insert_at(self, k: usize, d: Departure) -> Departures
-        requires { Sound self × (k ≤ self.len) × (self.len < 32) }
+        requires { (k ≤ self.len) × (self.len < 32) × Ascending shard_of (insert_at k (plain_departure d) (on_file self)) }
         ensures { Holds (insert_at k (plain_departure d) (on_file self)) result }
     {
         let mut x = self;
@@ -82,7 +90,7 @@ impl Departures {
 
     // The shard's departure put on file with its cut, unless one stands already: the first cut holds.
     pub fn departed(self, shard: Shard, cut: Time) -> Departures
-        requires { Sound self × Rising self × room_for self shard.0 cut.0 }
+        requires { room_for self shard.0 cut.0 }
         ensures { Holds (departed shard.0 cut.0 (on_file self)) result }
     {
         let None = self.find(shard) else {
@@ -99,7 +107,6 @@ impl Departures {
 
     // The shard's departure stamped, unless it is stamped already or not on file: the first stamp holds.
     pub fn stamped(self, shard: Shard, until: Time) -> Departures
-        requires { Sound self × Rising self }
         ensures { Holds (change shard_of shard.0 (stamped until.0) (on_file self)) result }
     {
         let Some(i) = self.find(shard) else {
@@ -113,7 +120,6 @@ impl Departures {
 
     // Those whose flag is up, in their order.
     pub fn retain(self, stay: [bool; 32]) -> Departures
-        requires { Sound self }
         ensures { Holds (keep_by (take self.len stay) (on_file self)) result }
     {
         let mut x = self;

@@ -1,10 +1,10 @@
 // The issuer index: which owed transactions issued the record at a key, as pairs by record and then transaction, none twice.
-ghost use Rattle.std.specs.Prelude.{◌≡◌, [], take};
-ghost use Rattle.lists.specs.Lists.{keep, keep_by};
-ghost use Rattle.lists.specs.Arrays.{rank};
-ghost use Rattle.rules.specs.Index.{names};
-ghost use Rattle.store.specs.Issuers.{Sound, Rising, Holds, pairs_in, is_pair, is_not, leads_pair, pair, is_before, Indexed, RanksAt, HasRoom, PutIn};
+ghost use Rattle.std.specs.Prelude.{◌≡◌, ◌≤◌, ◌<◌, ◌^◌, length, take};
+ghost use Rattle.lists.specs.Lists.{Every, Ascending, zip_by};
+ghost use Rattle.rules.specs.Index.{pair_key};
 ghost use Rattle.types.specs.Transactions.{number_of};
+ghost use Rattle.store.specs.Props.{Below-prop, Ascending-prop};
+ghost use Rattle.store.specs.Stored.{pair, is_pair, leads_pair};
 
 use lists::fronts;
 use types::{RecordKey, Transaction};
@@ -15,6 +15,10 @@ pub struct Issuers {
     pub records: [u64; 384],
     pub transactions: [u64; 384],
     pub len: usize,
+    pub ghost room: { len ≤ 384 },
+    pub ghost lengths: { (length records ≡ 384) × (length transactions ≡ 384) },
+    pub ghost rising: { Ascending pair_key (zip_by pair (take len records) (take len transactions)) } by { Ascending-prop pair_key (zip_by pair (take len records) (take len transactions)) },
+    pub ghost words: { Every (λ t. t < 2 ^ 64) (take len transactions) } by { Below-prop (2 ^ 64) (take len transactions) },
 }
 
 // Whether the pair (a, b) stands before (r, t): by record, then by transaction.
@@ -32,6 +36,12 @@ fn is_pair(a: RecordKey, b: Transaction, r: RecordKey, t: Transaction) -> bool
 }
 
 impl Issuers {
+    ghost use Rattle.std.specs.Prelude.{[]};
+    ghost use Rattle.lists.specs.Lists.{keep, keep_by, include};
+    ghost use Rattle.lists.specs.Arrays.{rank};
+    ghost use Rattle.rules.specs.Index.{names};
+    ghost use Rattle.store.specs.Issuers.{Holds, pairs_in, is_not, is_before, room_for};
+
     pub fn new() -> Issuers
         ensures { Holds [] result }
     {
@@ -44,7 +54,6 @@ impl Issuers {
 
     // How many pairs stand before (r, t), by halves: the library's search takes one slice, and these are two.
     fn rank(&self, r: RecordKey, t: Transaction) -> usize
-        requires { Indexed self.now }
         ensures { result ≡ rank (is_before r.0 (number_of t)) (pairs_in self.now) }
     {
         let mut low = 0;
@@ -64,7 +73,7 @@ impl Issuers {
 
     // Whether the pair that ranks at k stands there.
     fn stands_at(&self, k: usize, r: RecordKey, t: Transaction) -> bool
-        requires { RanksAt self.now r.0 (number_of t) k }
+        requires { k ≡ rank (is_before r.0 (number_of t)) (pairs_in self.now) }
         ensures { result ≡ names (pairs_in self.now) r.0 (number_of t) }
     {
         k < self.len
@@ -78,7 +87,6 @@ impl Issuers {
 
     // Whether the transaction is named under the record.
     pub fn names(self, r: RecordKey, t: Transaction) -> bool
-        requires { Sound self × Rising self }
         ensures { result ≡ names (pairs_in self) r.0 (number_of t) }
     {
         let k = self.rank(r, t);
@@ -87,8 +95,8 @@ impl Issuers {
 
     // The pair put in, unless it stands already. The index is lent, so that an admission names all its records in one copy of it.
     pub fn name(&mut self, r: RecordKey, t: Transaction)
-        requires { HasRoom self.old r.0 (number_of t) }
-        ensures { PutIn self.old r.0 (number_of t) self.new }
+        requires { room_for self.old r.0 (number_of t) }
+        ensures { Holds (include pair_key (pair r.0 (number_of t)) (pairs_in self.old)) self.new }
     {
         let k = self.rank(r, t);
         if self.stands_at(k, r, t) {
@@ -101,7 +109,6 @@ impl Issuers {
 
     // Those whose flag is up, in their order.
     pub fn retain(self, stay: [bool; 384]) -> Issuers
-        requires { Sound self }
         ensures { Holds (keep_by (take self.len stay) (pairs_in self)) result }
     {
         let mut x = self;
@@ -112,7 +119,6 @@ impl Issuers {
 
     // Without the pairs of a transaction.
     pub fn without(self, t: Transaction) -> Issuers
-        requires { Sound self }
         ensures { Holds (keep (is_not (number_of t)) (pairs_in self)) result }
     {
         let mut stay = [false; 384];

@@ -1,8 +1,7 @@
 // Several transactions let go at once, by flags that say who stays: what closes and prune do to the index.
 ghost use Rattle.std.specs.Prelude.{take};
-ghost use Rattle.store.specs.Roster as rosters;
 ghost use Rattle.store.specs.Roster.{keys_of};
-ghost use Rattle.store.specs.Issuers.{Sound, Holds, pairs_in};
+ghost use Rattle.store.specs.Issuers.{Holds, pairs_in};
 ghost use Rattle.store.specs.Leaving.{unnamed_by, dropped_by, Fronts};
 
 use crate::issuers::Issuers;
@@ -18,7 +17,6 @@ pub struct Dropped {
 
 // Those whose flag is down.
 fn dropped_from(roster: Roster, stay: [bool; 48]) -> Dropped
-    requires { rosters.Sound roster }
     ensures { Fronts (dropped_by (take roster.len stay) (keys_of roster)) result }
 {
     let mut transactions = [0; 48];
@@ -35,7 +33,6 @@ fn dropped_from(roster: Roster, stay: [bool; 48]) -> Dropped
 // The index without the pairs of those whose flag is down. Few leave at a time, so each pair is looked for among them; mostly nobody
 // does, and the index is not gone through.
 pub fn without_dropped(issuers: Issuers, roster: Roster, stay: [bool; 48]) -> Issuers
-    requires { Sound issuers × rosters.Sound roster }
     ensures { Holds (unnamed_by (take roster.len stay) (keys_of roster) (pairs_in issuers)) result }
 {
     let gone = dropped_from(roster, stay);

@@ -1,9 +1,9 @@
 // The owed transactions in rising order, each with the slot in which its entry lies. Entries never move: putting one in or letting
 // one go shifts numbers only. The slots not in use stand behind those in use, so that all forty-eight are always there once.
-ghost use Rattle.std.specs.Prelude.{◌≡◌, ◌≤◌, ◌<◌, take};
-ghost use Rattle.lists.specs.Arrays.{place, rank};
-ghost use Rattle.store.specs.Roster.{Sound, SlotOf, Fresh, Inserted, Removed, Retained, keys_of, is, below};
-ghost use Rattle.types.specs.Transactions.{number_of};
+ghost use Rattle.std.specs.Prelude.{◌≡◌, ◌≤◌, ◌<◌, length, take};
+ghost use Rattle.lists.specs.Lists.{Every};
+ghost use Rattle.lists.specs.Arrays.{place, rank, Distinct};
+ghost use Rattle.store.specs.Props.{Below-prop, Distinct-prop};
 
 use lists::{fronts, sorted};
 use types::Transaction;
@@ -14,6 +14,10 @@ pub struct Roster {
     pub keys: [u64; 48],
     pub slots: [usize; 48],
     pub len: usize,
+    pub ghost room: { len ≤ 48 },
+    pub ghost lengths: { (length keys ≡ 48) × (length slots ≡ 48) },
+    pub ghost within: { Every (λ s. s < 48) slots } by { Below-prop 48 slots },
+    pub ghost distinct: { Distinct slots } by { Distinct-prop slots },
 }
 
 const SLOTS: [usize; 48] = [
@@ -22,6 +26,9 @@ const SLOTS: [usize; 48] = [
 ];
 
 impl Roster {
+    ghost use Rattle.store.specs.Roster.{SlotOf, Fresh, Inserted, Removed, Retained, keys_of, is, below};
+    ghost use Rattle.types.specs.Transactions.{number_of};
+
     pub fn new() -> Roster
         ensures { Fresh result }
     {
@@ -34,7 +41,6 @@ impl Roster {
 
     // Where the transaction stands.
     pub fn find(self, tx: Transaction) -> Option<usize>
-        requires { Sound self }
         ensures { result ≡ place (is (number_of tx)) 0 (keys_of self) }
     {
         self.keys[..self.len].iter().position(|k| *k == tx.0)
@@ -42,7 +48,6 @@ impl Roster {
 
     // The slot in which the transaction's entry lies.
     pub fn slot_of(self, tx: Transaction) -> Option<usize>
-        requires { Sound self }
         ensures { SlotOf self (number_of tx) result }
     {
         let Some(k) = self.find(tx) else {
@@ -53,7 +58,6 @@ impl Roster {
 
     // How many stand before the transaction: where it is to be put in.
     pub fn rank(self, tx: Transaction) -> usize
-        requires { Sound self }
         ensures { result ≡ rank (below (number_of tx)) (keys_of self) }
     {
         sorted::rank(&self.keys, self.len, tx.0)
@@ -61,7 +65,7 @@ impl Roster {
 
     // The transaction put in at a place, with the first slot that is not in use.
     pub fn insert_at(self, k: usize, tx: Transaction) -> Roster
-        requires { Sound self × (k ≤ self.len) × (self.len < 48) }
+        requires { (k ≤ self.len) × (self.len < 48) }
         ensures { Inserted self k (number_of tx) result }
     {
         let mut r = self;
@@ -74,7 +78,7 @@ impl Roster {
 
     // What stands at a place let go: its slot goes behind those in use.
     pub fn remove_at(self, k: usize) -> Roster
-        requires { Sound self × (k < self.len) }
+        requires { (k < self.len) }
         ensures { Removed self k result }
     {
         let mut r = self;
@@ -89,19 +93,22 @@ impl Roster {
 
     // Those whose flag is up, in their order; the slots of the others go behind them.
     pub fn retain(self, stay: [bool; 48]) -> Roster
-        requires { Sound self }
         ensures { Retained self (take self.len stay) result }
     {
-        let mut r = self;
+        let mut keys = self.keys;
+        let mut slots = self.slots;
         let mut w = 0;
         for i in 0..self.len {
             if stay[i] {
-                r.keys[w] = r.keys[i];
-                r.slots.swap(i, w);
+                keys[w] = keys[i];
+                slots.swap(i, w);
                 w += 1;
             }
         }
-        r.len = w;
-        r
+        Roster {
+            keys,
+            slots,
+            len: w,
+        }
     }
 }

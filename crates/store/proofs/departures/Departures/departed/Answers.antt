@@ -2,7 +2,7 @@
 use Rattle.std.proofs.Common.{ℕ, ◌∙◌, sym, ap, arith}
 use Rattle.std.proofs.Math.Option.{none}
 use Rattle.lists.specs.Arrays.{insert_at}
-use Rattle.lists.proofs.Order.{include-known, length-include_new}
+use Rattle.lists.proofs.Order.{ascending-include, include-known, length-include_new}
 use Rattle.lists.proofs.Loops.{rank_le, include-rank, located, missing}
 use Rattle.rules.specs.Plain as plain
 use Rattle.rules.specs.Plain.{shard_of}
@@ -17,19 +17,18 @@ pub returns-in_default : goal.returns-in_default
 returns-in_default c =
     let a = c.args in
     record {
-      sound = c.requires.0;
-      file = sym (include-known shard_of (departure a.shard.0 a.cut.0) (on_file a.self) c.requires.1
+      file = sym (include-known shard_of (departure a.shard.0 a.cut.0) (on_file a.self) a.self.rising
           (located shard_of a.shard.0 (on_file a.self) _ (sym c.find.ensures ∙ c.in_default.is)).known);
     }
 
 pub insert_at-requires : goal.insert_at-requires
 insert_at-requires c =
     let a = c.args in
-    let n = file-length a.self c.requires.0 in
+    let n = file-length a.self in
     let new = (missing shard_of a.shard.0 (on_file a.self) (sym c.find.ensures ∙ c.in-None.is)).known in (
-      c.requires.0,
       omega (arith, n, c.rank-k.ensures, rank_le (is_under a.shard.0) (on_file a.self)),
-      omega (arith, n, c.requires.2, length-include_new shard_of (departure a.shard.0 a.cut.0) (on_file a.self) new),
+      omega (arith, n, c.requires, length-include_new shard_of (departure a.shard.0 a.cut.0) (on_file a.self) new),
+      rw (c.rank-k.ensures, include-rank shard_of (departure a.shard.0 a.cut.0) (on_file a.self) new) (ascending-include shard_of (departure a.shard.0 a.cut.0) (on_file a.self) a.self.rising),
     )
 
 pub returns : goal.returns
@@ -37,7 +36,6 @@ returns c =
     let a = c.args in
     let new = (missing shard_of a.shard.0 (on_file a.self) (sym c.find.ensures ∙ c.in-None.is)).known in
     record {
-      sound = c.insert_at.ensures.sound;
       file = c.insert_at.ensures.file
           ∙ ap (λ k. insert_at k (departure a.shard.0 a.cut.0) (on_file a.self)) c.rank-k.ensures
           ∙ include-rank shard_of (departure a.shard.0 a.cut.0) (on_file a.self) new;

@@ -14,9 +14,9 @@ loop-i-preserved c =
     let l = c.loop-i in
     let x = c.args.self in
     let p = is_not (number_of c.args.t) in
-    let size : length (pairs_in x) ≡ x.len = pairs-length x c.requires in
-    let at = pairs-at pair x.records x.transactions x.len (omega (arith, c.requires.room, c.requires.record_length)) (omega (arith, c.requires.room, c.requires.transaction_length)) 0 0 (pair 0 0) l.i (omega arith) in
-    (search rules, fill_one p l.stay (pairs_in x) l.i (pair 0 0) _ (omega (arith, c.requires.room)) (omega arith) (c.ne.ensures ∙ sym (ap p at)) l.invariant.1)
+    let size : length (pairs_in x) ≡ x.len = pairs-length x in
+    let at = pairs-at pair x.records x.transactions x.len (omega (arith, x.room, x.lengths.0)) (omega (arith, x.room, x.lengths.1)) 0 0 (pair 0 0) l.i (omega arith) in
+    (search rules, fill_one p l.stay (pairs_in x) l.i (pair 0 0) _ (omega (arith, x.room)) (omega arith) (c.ne.ensures ∙ sym (ap p at)) l.invariant.1)
 
 pub returns : goal.returns
 returns c =
@@ -24,7 +24,7 @@ returns c =
     let x = c.args.self in
     let p = is_not (number_of c.args.t) in
     let q : l.i ≡ x.len = omega arith in
-    let e : take l.i (pairs_in x) ≡ pairs_in x = take_all l.i (pairs_in x) (omega (arith, pairs-length x c.requires)) in
+    let e : take l.i (pairs_in x) ≡ pairs_in x = take_all l.i (pairs_in x) (omega (arith, pairs-length x)) in
     let f : take x.len l.stay ≡ map p (pairs_in x) = ap (λ m. take m l.stay) (sym q) ∙ l.invariant.1 ∙ ap (map p) e in
     let k = c.retain.ensures in
-    record { sound = k.sound; pairs = k.pairs ∙ ap (λ m. keep_by m (pairs_in x)) f ∙ keep_by_test p (pairs_in x) }
+    record { pairs = k.pairs ∙ ap (λ m. keep_by m (pairs_in x)) f ∙ keep_by_test p (pairs_in x) }

@@ -1,30 +1,27 @@
 -- The first free slot goes in among those in use, so that all slots are there once.
-use Rattle.std.proofs.Common.{◌<◌, refl, sym, get_or, arith, rules}
+use Rattle.std.proofs.Common.{◌<◌, refl, sym, get_or, arith}
 use Rattle.lists.specs.Lists.{Every}
 use Rattle.lists.specs.Arrays.{Distinct, insert_at, remove_at}
 use Rattle.lists.proofs.Distinct.{distinct-insert_at, distinct-remove_at, remove_at_lacks, every_insert_at, every_remove_at, every_at}
 use Rattle.store.proofs.roster.Roster.insert_at.Goals as goal
 
 pub returns : goal.returns
-returns c =
+returns c = record { len = refl; keys = c.insert_at.ensures.front; slots = c.insert_at-2.ensures.front }
+
+pub invariant_of-r-clause-within : goal.invariant_of-r-clause-within
+invariant_of-r-clause-within c =
     let r = c.args.self in
-    let s = c.requires.0 in
     let n = r.len in
     let slot = get_or r.slots n 0 in
-    let e = sym c.insert_at-2.ensures.whole in
     let within : Every (λ x. x < 48) (insert_at c.args.k slot (remove_at n r.slots)) =
-    every_insert_at (λ x. x < 48) c.args.k slot (remove_at n r.slots) (every_at (λ x. x < 48) 0 n r.slots (omega (arith, s.slot_length)) s.within) (every_remove_at (λ x. x < 48) n r.slots s.within) in
+    every_insert_at (λ x. x < 48) c.args.k slot (remove_at n r.slots) (every_at (λ x. x < 48) 0 n r.slots (omega (arith, r.lengths.1)) r.within) (every_remove_at (λ x. x < 48) n r.slots r.within) in
+    rw (sym c.insert_at-2.ensures.whole) at within
+
+pub invariant_of-r-clause-distinct : goal.invariant_of-r-clause-distinct
+invariant_of-r-clause-distinct c =
+    let r = c.args.self in
+    let n = r.len in
+    let slot = get_or r.slots n 0 in
     let distinct : Distinct (insert_at c.args.k slot (remove_at n r.slots)) =
-    distinct-insert_at c.args.k slot (remove_at n r.slots) (remove_at_lacks n r.slots (omega (arith, s.slot_length)) s.distinct) (distinct-remove_at n r.slots (omega (arith, s.slot_length)) s.distinct) in
-    record {
-      sound = record {
-        room = omega arith;
-        key_length = search rules;
-        slot_length = search rules;
-        within = rw e at within;
-        distinct = rw e at distinct;
-      };
-      len = refl;
-      keys = c.insert_at.ensures.front;
-      slots = c.insert_at-2.ensures.front;
-    }
+    distinct-insert_at c.args.k slot (remove_at n r.slots) (remove_at_lacks n r.slots (omega (arith, r.lengths.1)) r.distinct) (distinct-remove_at n r.slots (omega (arith, r.lengths.1)) r.distinct) in
+    rw (sym c.insert_at-2.ensures.whole) at distinct

@@ -1,12 +1,14 @@
+-- All slots are there once in the end, as after each turn.
 use Rattle.std.proofs.Common.{◌≡◌, ◌≤◌, ◌<◌, ◌∙◌, refl, sym, length, arith, rules}
 use Rattle.lists.proofs.Distinct.{flags_end, swap_is}
+use Rattle.store.proofs.Shape.{sound_roster}
 use Rattle.store.proofs.Keeping.{turn_up, turn_down}
 use Rattle.store.proofs.roster.Roster.retain.Goals as goal
 use Rattle.store.proofs.roster.Roster.retain.Goals.{then-stay-i, else-stay-i}
 
 pub loop-i-init : goal.loop-i-init
 loop-i-init c =
-    let s = c.requires in
+    let s = sound_roster c.args.self in
     record {
       low = omega arith;
       high = omega arith;
@@ -14,8 +16,8 @@ loop-i-init c =
       slot_length = s.slot_length;
       within = s.within;
       distinct = s.distinct;
-      keys = refl;
-      slots = refl;
+      kept_keys = refl;
+      kept_slots = refl;
     }
 
 pub loop-i-preserved : goal.loop-i-preserved
@@ -24,10 +26,10 @@ loop-i-preserved c =
     let a = c.args in
     let f : length a.stay ≡ 48 = search rules in
     let h : l.i < a.self.len = omega arith in
-    let m : a.self.len ≤ 48 = c.requires.room in
+    let m : a.self.len ≤ 48 = a.self.room in
     elim c.if-stay-i.branch [
-      | then-stay-i w ↦ rw (w.r-is, w.w-is, w.swap.ensures.after, swap_is 0 l.w l.i l.r.slots (omega arith) (omega arith)) (turn_up a.self a.self.len a.stay l.r l.w l.i l.invariant h m f w.if-stay-i.true)
-      | else-stay-i w ↦ rw (w.r-is, w.w-is) (turn_down a.self a.self.len a.stay l.r l.w l.i l.invariant h m f w.if-stay-i.false)
+      | then-stay-i w ↦ rw (w.keys-is, w.slots-is, w.w-is, w.swap.ensures.after, swap_is 0 l.w l.i l.slots (omega arith) (omega arith)) (turn_up a.self a.self.len a.stay l.keys l.slots l.w l.i l.invariant h m f w.if-stay-i.true)
+      | else-stay-i w ↦ rw (w.keys-is, w.slots-is, w.w-is) (turn_down a.self a.self.len a.stay l.keys l.slots l.w l.i l.invariant h m f w.if-stay-i.false)
     ]
 
 pub returns : goal.returns
@@ -37,7 +39,6 @@ returns c =
     let a = c.args in
     let f : length a.stay ≡ 48 = search rules in
     record {
-      sound = record { room = omega (arith, v.low, v.high, c.requires.room); key_length = v.key_length; slot_length = v.slot_length; within = v.within; distinct = v.distinct };
-      keys = sym (flags_end a.stay l.r.keys l.w l.i a.self.len (omega arith) (omega (arith, c.requires.room))) ∙ v.keys;
-      slots = sym (flags_end a.stay l.r.slots l.w l.i a.self.len (omega arith) (omega (arith, c.requires.room))) ∙ v.slots;
+      keys = sym (flags_end a.stay l.keys l.w l.i a.self.len (omega arith) (omega (arith, a.self.room))) ∙ v.kept_keys;
+      slots = sym (flags_end a.stay l.slots l.w l.i a.self.len (omega arith) (omega (arith, a.self.room))) ∙ v.kept_slots;
     }
