@@ -5,7 +5,7 @@ ghost use Rattle.rules.specs.Plain.{shard_of};
 ghost use Rattle.store.specs.Props.{Ascending-prop};
 ghost use Rattle.store.specs.Stored.{plain_departure};
 
-use lists::fronts;
+use lists::{fronts, sorted};
 use types::{Shard, Time};
 
 // until is the stamp, and None while the departure has none.
@@ -71,10 +71,7 @@ impl Departures {
     fn rank(self, shard: Shard) -> usize
         ensures { result ≡ rank (is_under shard.0) (on_file self) }
     {
-        self.items[..self.len]
-            .iter()
-            .take_while(|d| d.shard < shard)
-            .count()
+        sorted::rank(&self.items[..self.len], |d| d.shard < shard)
     }
 
     // The departure put in at k.
@@ -123,7 +120,7 @@ impl Departures {
         ensures { Holds (keep_by (take self.len stay) (on_file self)) result }
     {
         let mut x = self;
-        x.len = fronts::retain(&mut x.items, self.len, &stay);
+        x.len = fronts::retain(&mut x.items, &stay[..self.len]);
         x
     }
 }

@@ -112,8 +112,8 @@ impl Issuers {
         ensures { Holds (keep_by (take self.len stay) (pairs_in self)) result }
     {
         let mut x = self;
-        fronts::retain(&mut x.records, self.len, &stay);
-        x.len = fronts::retain(&mut x.transactions, self.len, &stay);
+        fronts::retain(&mut x.records, &stay[..self.len]);
+        x.len = fronts::retain(&mut x.transactions, &stay[..self.len]);
         x
     }
 

@@ -60,7 +60,7 @@ impl Roster {
     pub fn rank(self, tx: Transaction) -> usize
         ensures { result ≡ rank (below (number_of tx)) (keys_of self) }
     {
-        sorted::rank(&self.keys, self.len, tx.0)
+        sorted::rank(&self.keys[..self.len], |k| *k < tx.0)
     }
 
     // The transaction put in at a place, with the first slot that is not in use.

@@ -1,5 +1,5 @@
 -- Both arrays keep the same places, so that the pairs kept are those whose flag is up.
-use Rattle.std.proofs.Common.{ℕ, ◌≡◌, ◌<◌, ◌^◌, ◌∙◌, Bool, List, sym, ap, length, take, arith}
+use Rattle.std.proofs.Common.{ℕ, ◌≡◌, ◌<◌, ◌≤◌, ◌^◌, ◌∙◌, Bool, List, sym, ap, length, take, arith, rules}
 use Rattle.std.proofs.Math.Seq.{length-take-le}
 use Rattle.lists.specs.Lists.{keep_by, zip_by}
 use Rattle.lists.specs.Arrays.{Kept}
@@ -7,30 +7,34 @@ use Rattle.lists.proofs.Zip.{kept-length, kept-pairs}
 use Rattle.rules.specs.Index.{pair_key}
 use Rattle.store.specs.declared.issuers.Issuers.{Issuers}
 use Rattle.store.specs.Issuers.{pair, pairs_in}
-use Rattle.store.proofs.Kept.{every_kept, kept_rises}
+use Rattle.store.proofs.Kept.{every_kept, kept_rises, flagged}
 use Rattle.store.proofs.issuers.Issuers.retain.Goals as goal
 
-kept : (x : Issuers) (f : List Bool) (us vs : List ℕ) (m n : ℕ) → Kept f x.records x.len us m → Kept f x.transactions x.len vs n →
-    zip_by pair (take n us) (take n vs) ≡ keep_by f (pairs_in x)
-kept x f us vs k n o p =
+kept : (x : Issuers) (f : List Bool) (us vs : List ℕ) (m n : ℕ) → x.len ≤ length f → Kept (take x.len f) x.records us m → Kept (take x.len f) x.transactions vs n →
+    zip_by pair (take n us) (take n vs) ≡ keep_by (take x.len f) (pairs_in x)
+kept x stay us vs k n h o p =
+    let f = take x.len stay in
     let rs = take x.len x.records in
     let ts = take x.len x.transactions in
+    let o' = flagged stay x.len x.records us k h o in
+    let p' = flagged stay x.len x.transactions vs n h p in
+    let many : length f ≡ x.len = length-take-le x.len stay h in
     let same : length rs ≡ length ts = length-take-le x.len x.records (omega (arith, x.room, x.lengths.0)) ∙ sym (length-take-le x.len x.transactions (omega (arith, x.room, x.lengths.1))) in
-    let m : length (take k us) ≡ k = length-take-le k us (omega (arith, o.room, o.size, x.room, x.lengths.0)) in
-    let n' : length (take n vs) ≡ n = length-take-le n vs (omega (arith, p.room, p.size, x.room, x.lengths.1)) in
-    let e : n ≡ k = sym n' ∙ ap length p.front ∙ sym (kept-length f rs ts same) ∙ ap length (sym o.front) ∙ m in
-    let records : take n us ≡ keep_by f rs = ap (λ i. take i us) e ∙ o.front in
-    ap (λ l. zip_by pair l (take n vs)) records ∙ ap (zip_by pair (keep_by f rs)) p.front ∙ kept-pairs pair f rs ts same
+    let m : length (take k us) ≡ k = length-take-le k us (omega (arith, o.room, o.size, many, x.room, x.lengths.0)) in
+    let n' : length (take n vs) ≡ n = length-take-le n vs (omega (arith, p.room, p.size, many, x.room, x.lengths.1)) in
+    let e : n ≡ k = sym n' ∙ ap length p' ∙ sym (kept-length f rs ts same) ∙ ap length (sym o') ∙ m in
+    let records : take n us ≡ keep_by f rs = ap (λ i. take i us) e ∙ o' in
+    ap (λ l. zip_by pair l (take n vs)) records ∙ ap (zip_by pair (keep_by f rs)) p' ∙ kept-pairs pair f rs ts same
 
 pub returns : goal.returns
-returns c = record { pairs = kept c.args.self _ _ _ _ _ c.retain.ensures c.retain-2.ensures }
+returns c = record { pairs = kept c.args.self c.args.stay _ _ _ _ (search rules) c.retain.ensures c.retain-2.ensures }
 
 pub invariant_of-x-clause-rising : goal.invariant_of-x-clause-rising
 invariant_of-x-clause-rising c =
     let x = c.args.self in
-    rw (kept x _ _ _ _ _ c.retain.ensures c.retain-2.ensures) (kept_rises pair_key (take x.len c.args.stay) (pairs_in x) x.rising)
+    rw (kept x c.args.stay _ _ _ _ (search rules) c.retain.ensures c.retain-2.ensures) (kept_rises pair_key (take x.len c.args.stay) (pairs_in x) x.rising)
 
 pub invariant_of-x-clause-words : goal.invariant_of-x-clause-words
 invariant_of-x-clause-words c =
     let x = c.args.self in
-    rw (c.retain-2.ensures.front) (every_kept (λ t. t < 2 ^ 64) (take x.len c.args.stay) (take x.len x.transactions) x.words)
+    rw (flagged c.args.stay x.len _ _ _ (search rules) c.retain-2.ensures) (every_kept (λ t. t < 2 ^ 64) (take x.len c.args.stay) (take x.len x.transactions) x.words)
