@@ -22,21 +22,17 @@ pub record Faces (p : Plain) (now home v l : ℕ) (w : View) : Type 0 where
   pub leg_span : p.leg_span ≡ l
   pub view : Shows p.departures now w
 
--- a fall that is reported, and one that is not
-abbrev pub reported_unless : ℕ → Bool → Verdict
-reported_unless covered true = Stands
-reported_unless covered false = Reported covered
-
-abbrev pub quiet_unless : Bool → Verdict
-quiet_unless true = Stands
-quiet_unless false = Falls
+-- standing, or else this fall
+abbrev pub unless : Verdict → Bool → Verdict
+unless v true = Stands
+unless v false = v
 
 -- the verdict by rule 4 if it fits, else by rule 5
 abbrev pub by_routes : Plain → ℕ → Entry → Verdict
 by_routes p now e =
     cond (ltb 0 e.certificate && filled (remote p.local e.terms))
-    (reported_unless 0 (stands_by answering p now e))
-    (quiet_unless (stands_by expiring p now e))
+    (unless (Reported 0) (stands_by answering p now e))
+    (unless Falls (stands_by expiring p now e))
 
 -- what is said of an entry in every ledger that faces this view: by rules 4 and 5 alone, and by all five
 abbrev pub RuledByRoutes : View → ℕ → ℕ → ℕ → Entry → Verdict → Type 0

@@ -38,7 +38,6 @@ fn counts_over(led: u64, d: Seen, anchor: Time, best: Time, lowest: Shard) -> bo
 // Rule 4's question: over some remote route there is no departure, or the one that counts is readable. The departures are gone
 // through downwards, with the best so far beside; the loops left by their label are a form that is kept.
 pub fn is_answerable(e: &Entry, local: Shard, view: &View) -> bool
-    requires { is_shard local.0 ≡ true }
     ensures { SaysAnswerable view.now (take e.now.routes_len e.now.routes) e.now.anchor.0 local.0 result }
 {
     let n = e.routes_len as usize;
@@ -74,7 +73,6 @@ pub fn is_answerable(e: &Entry, local: Shard, view: &View) -> bool
 
 // Whether a departure is over a route that local does not own.
 fn is_over_remote(route: u64, local: Shard, d: Seen, anchor: Time) -> bool
-    requires { is_shard local.0 ≡ true }
     ensures { result ≡ (not (owns local.0 route) && (eqb ((route / 2 + 2 ^ 63) / 2 ^ d.zeros) d.shard.0 && ltb anchor.0 d.cut.0)) }
 {
     !local.owns(route) && is_over(led(route), d, anchor)
@@ -82,7 +80,6 @@ fn is_over_remote(route: u64, local: Shard, d: Seen, anchor: Time) -> bool
 
 // Whether a departure is over some remote route.
 fn covers_some(e: &Entry, local: Shard, d: Seen) -> bool
-    requires { is_shard local.0 ≡ true }
     ensures { SaysCovered d (take e.now.routes_len e.now.routes) e.now.anchor.0 local.0 result }
 {
     let n = e.routes_len as usize;
@@ -94,7 +91,6 @@ fn covers_some(e: &Entry, local: Shard, d: Seen) -> bool
 
 // Whether an entry needs a departure: its shard names the entry, or it is over a remote route of it.
 pub fn needs(e: &Entry, local: Shard, x: Seen) -> bool
-    requires { is_shard local.0 ≡ true }
     ensures { (d : plain.Departure) → is_shard d.shard ≡ true → x.shard.0 ≡ d.shard → x.zeros ≡ zeros_of d → x.cut.0 ≡ d.cut → result ≡ holds local.0 d (plain_entry e.now) }
 {
     e.departed_by == x.shard || covers_some(e, local, x)

@@ -2,9 +2,9 @@
 ghost use Rattle.std.specs.Prelude.{◌≡◌, ◌&&◌, ◌||◌, true, ltb};
 ghost use Rattle.lists.specs.Lists.{filled};
 ghost use Rattle.rules.specs.Plain.{is_core, is_settling};
-ghost use Rattle.rules.specs.Numbers.{is_shard, is_time, is_span};
+ghost use Rattle.rules.specs.Numbers.{is_time, is_span};
 ghost use Rattle.entry.specs.Entry.{plain_entry};
-ghost use Rattle.judge.specs.Verdict.{reported_unless, quiet_unless, RuledByRoutes, Judged};
+ghost use Rattle.judge.specs.Verdict.{unless, RuledByRoutes, Judged};
 
 use crate::routes;
 use crate::views::View;
@@ -19,26 +19,11 @@ pub enum Verdict {
     Reported(u64),
 }
 
-// By a rule whose falls are not reported.
-fn quiet_unless(stands: bool) -> Verdict
-    ensures { result ≡ quiet_unless stands }
+// By a rule that lets an entry stand, or else fall so.
+fn unless(stands: bool, fall: Verdict) -> Verdict
+    ensures { result ≡ unless fall stands }
 {
-    if stands {
-        Verdict::Stands
-    } else {
-        Verdict::Falls
-    }
-}
-
-// By a rule whose falls are reported.
-fn reported_unless(stands: bool, covered: u64) -> Verdict
-    ensures { result ≡ reported_unless covered stands }
-{
-    if stands {
-        Verdict::Stands
-    } else {
-        Verdict::Reported(covered)
-    }
+    if stands { Verdict::Stands } else { fall }
 }
 
 // Rule 1: core with no certificate by execution.
@@ -59,15 +44,14 @@ fn is_settling(e: &Entry) -> bool
 
 // Rules 4 and 5, of an entry that no record names and that has no absence.
 fn by_routes(e: &Entry, local: Shard, validity: u64, time: Time, view: &View) -> Verdict
-    requires local_value { is_shard local.0 ≡ true }
     requires at_value { is_time e.now.at.0 ≡ true }
     requires validity_value { is_span validity ≡ true }
     ensures { RuledByRoutes view.now time.0 local.0 validity (plain_entry e.now) result }
 {
     if e.certified != Certificate::Missing && e.reaches_beyond(local) {
-        return reported_unless(routes::is_answerable(e, local, view), 0);
+        return unless(routes::is_answerable(e, local, view), Verdict::Reported(0));
     }
-    quiet_unless(time.0 < e.at.0 + validity)
+    unless(time.0 < e.at.0 + validity, Verdict::Falls)
 }
 
 // The verdict on an entry at a clock, by the first rule that fits.
@@ -79,7 +63,6 @@ pub fn judge(
     time: Time,
     view: &View,
 ) -> Verdict
-    requires local_value { is_shard local.0 ≡ true }
     requires at_value { is_time e.now.at.0 ≡ true }
     requires validity_value { is_span validity ≡ true }
     requires leg_span_value { is_span leg_span ≡ true }
@@ -93,10 +76,10 @@ pub fn judge(
         return Verdict::Stands;
     }
     if by_window {
-        return quiet_unless(time.0 < e.at.0 + leg_span);
+        return unless(time.0 < e.at.0 + leg_span, Verdict::Falls);
     }
     if named {
-        return reported_unless(view.has_readable(departed_by), 1);
+        return unless(view.has_readable(departed_by), Verdict::Reported(1));
     }
     by_routes(e, local, validity, time, view)
 }

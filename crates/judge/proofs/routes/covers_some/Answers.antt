@@ -1,3 +1,4 @@
+-- The test of a route is the rules', of what local does not own.
 use Rattle.std.proofs.Common.{rules, tests, take}
 use Rattle.std.proofs.lemmas.Iterator.{YieldsList-from_slice}
 use Rattle.std.proofs.lemmas.Iterator.Search.{any_from_yields_List}

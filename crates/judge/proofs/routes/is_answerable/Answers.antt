@@ -1,3 +1,4 @@
+-- Gone through downwards, what is beside is the departure that counts; the first route that it answers for ends the search.
 use Rattle.std.proofs.Common.{◌≡◌, ◌-◌, sym, ap, ◌∙◌, not, ◌&&◌, true, false, arith, get_or, take}
 use Rattle.lists.specs.Lists.{keep}
 use Rattle.lists.proofs.Loops.{any_hit, any_miss, any-end}

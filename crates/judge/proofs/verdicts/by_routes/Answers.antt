@@ -13,14 +13,14 @@ returns-then-reaches_beyond c p l faces =
     let certified : ltb 0 (certificate_number s.e.now.certified) ≡ true = search (rules, tests) in
     let beyond = sym c.reaches_beyond.ensures ∙ c.if-reaches_beyond.true in
     let over_by = c.is_answerable.ensures p.departures s.time.0 e faces.view (record { routes = refl; anchor = refl }) in
-    c.reported_unless.ensures ∙ by_answering p s.time.0 e s.local.0 faces.local _ certified beyond over_by
+    c.unless.ensures ∙ by_answering p s.time.0 e s.local.0 faces.local _ certified beyond over_by
 
 pub returns : goal.returns
 unfolding plain_entry
 returns c p l faces =
     let s = c.args in
     let e = plain_entry s.e.now in
-    c.quiet_unless.ensures
+    c.unless-2.ensures
     ∙ elim c.else-ne.branch [
       | else-ne-via-then-ne+else-reaches_beyond w ↦ by_no_remote p s.time.0 e s.local.0 faces.local s.validity faces.validity (sym w.reaches_beyond.ensures ∙ w.if-reaches_beyond.false)
       | else-ne-via-else-ne w ↦

@@ -2,7 +2,8 @@
 use Rattle.std.proofs.Common.{◌≡◌, ◌+◌, refl, sym, ap, ◌∙◌, subst, false, true, ltb, rules, tests}
 use Rattle.entry.specs.Entry.{plain_entry}
 use Rattle.rules.specs.Prune.{settling, recorded, stands_by}
-use Rattle.judge.specs.Verdict.{Says, reported_unless, quiet_unless}
+use Rattle.judge.specs.declared.verdicts.Verdict.TheVariants.{Falls, Reported}
+use Rattle.judge.specs.Verdict.{Says, unless}
 use Rattle.judge.proofs.Judging.{rule_1, rule_2, rule_3, rule_4_or_5, says_quiet, says_reported, says-routes}
 use Rattle.judge.proofs.verdicts.judge.Goals as goal
 
@@ -18,7 +19,7 @@ returns-then-by_window c p faces =
     let s = c.args in
     let e = plain_entry s.e.now in
     let fits = rule_2 p.local e (sym c.is_awaiting.ensures ∙ c.if-is_awaiting.false) (sym c.is_settling-settles.ensures ∙ c.if-by_window.true) in
-    let same = c.quiet_unless.ensures ∙ ap (λ m. quiet_unless (ltb s.time.0 (s.e.now.at.0 + m))) (sym faces.leg_span) in
+    let same = c.unless.ensures ∙ ap (λ m. unless Falls (ltb s.time.0 (s.e.now.at.0 + m))) (sym faces.leg_span) in
     subst (λ v. Says v p s.time.0 e) (sym same) (says_quiet p s.time.0 e settling fits refl)
 
 pub returns-then-named : goal.returns-then-named
@@ -28,7 +29,7 @@ returns-then-named c p faces =
     let e = plain_entry s.e.now in
     let named : ltb 0 s.e.now.departed_by.0 ≡ true = search (rules, tests) in
     let fits = rule_3 p.local e (sym c.is_awaiting.ensures ∙ c.if-is_awaiting.false) (sym c.is_settling-settles.ensures ∙ c.if-by_window.false) named in
-    let same = c.reported_unless.ensures ∙ ap (reported_unless 1) (c.has_readable.ensures p.departures s.time.0 e faces.view refl named) in
+    let same = c.unless-then-named.ensures ∙ ap (unless (Reported 1)) (c.has_readable.ensures p.departures s.time.0 e faces.view refl named) in
     subst (λ v. Says v p s.time.0 e) (sym same) (says_reported p s.time.0 e recorded fits refl)
 
 pub returns : goal.returns
