@@ -103,11 +103,11 @@ including_good p e h room g =
 
 -- The roster's free slot, and where a transaction ranks.
 
-pub free_slot_lem : (l : Ledger) → Held l → l.roster.len < 48 → free_slot l.roster < 48
-free_slot_lem l h room = every_at (λ n. n < 48) 0 l.roster.len l.roster.slots (omega (arith, h.roster.slot_length, room)) h.roster.within
+pub free_slot_lem : (l : Ledger) → l.roster.len < 48 → free_slot l.roster < 48
+free_slot_lem l room = every_at (λ n. n < 48) 0 l.roster.len l.roster.slots (omega (arith, l.roster.lengths.1, room)) l.roster.within
 
-pub ranks_within : (l : Ledger) → Held l → (t : ℕ) → rank (below t) (keys_of l.roster) ≤ l.roster.len
-ranks_within l h t = omega (arith, rank_le (below t) (keys_of l.roster), length-take-le l.roster.len l.roster.keys (omega (arith, h.roster.room, h.roster.key_length)))
+pub ranks_within : (l : Ledger) → (t : ℕ) → rank (below t) (keys_of l.roster) ≤ l.roster.len
+ranks_within l t = omega (arith, rank_le (below t) (keys_of l.roster), length-take-le l.roster.len l.roster.keys (omega (arith, l.roster.room, l.roster.lengths.0)))
 
 -- the groups from i on, whose routes start at a place, on the ledger in hand, and all groups, on the one handed in
 pub record Rebuilding (l₀ : Ledger) (ws : List ℕ) (l : Ledger) (start n i : ℕ) : Type 0 where
@@ -141,9 +141,9 @@ same_count l p es e = ap (λ (p : Plain). p.rebuilt) e
 
 -- after the last
 pub rebuilt-all : (l₀ : Ledger) (ws : List ℕ) (l : Ledger) (start n i sum : ℕ) → Held l₀ → 0 ≡ refusal_by (keys_of l₀.roster) ws → record_formed ws ≡ true → Rebuilding l₀ ws l start n i →
-    group_count ws ≤ i → sum ≡ min (l.rebuilt + n) max_count → Meets (after_abandonment ws (contents l₀)) [] [] (says n (with_count l sum))
+    group_count ws ≤ i → sum ≡ min (l.rebuilt + n) max_count → (z : length l.entries ≡ 48) → Meets (after_abandonment ws (contents l₀)) [] [] (says n (with_count l sum z))
 unfolding after_abandonment
-rebuilt-all l₀ ws l start n i sum held none f v h q =
+rebuilt-all l₀ ws l start n i sum held none f v h q z =
     let e : abandonment_refusal ws (contents l₀) ≡ 0 = sym (by_keys l₀ held ws) ∙ sym none in
     let gs = record_groups ws in
     let p = contents l₀ in
@@ -151,10 +151,10 @@ rebuilt-all l₀ ws l start n i sum held none f v h q =
     let es : contents l ≡ with_entries (with_groups (record_shard ws) gs p.entries) p = d.0.holds ∙ through-entries (λ h. with_group (record_shard ws)) gs p in
     let many : n ≡ rebuilt_by (record_shard ws) gs p.entries = d.1 ∙ tally-entries (λ h. with_group (record_shard ws)) (λ h. rebuilt_of) gs p in
     let sums : sum ≡ min (p.rebuilt + n) max_count = q ∙ ap (λ k. min (k + n) max_count) (same_count l p _ es) in
-    let b = counted l v.doing.held sum (omega arith) in
-    passes (abandonment_refusal ws p) p _ [] [] (says n (with_count l sum)) e
+    let b = counted l v.doing.held sum (omega arith) z in
+    passes (abandonment_refusal ws p) p _ [] [] (says n (with_count l sum z)) e
     (rw (sym many)
-    (answers n (with_count l sum) _ _ (record { held = b.held; holds = b.holds ∙ ap₂ with_rebuilt sums es }) refl))
+    (answers n (with_count l sum z) _ _ (record { held = b.held; holds = b.holds ∙ ap₂ with_rebuilt sums es }) refl))
 
 -- a turn of the loop: the group's entry x was read, and the ledger after it
 module _ (l₀ : Ledger) (ws : List ℕ) (p : Passed ws (contents l₀)) (l : Ledger) (start n i : ℕ) (v : Rebuilding l₀ ws l start n i) (h : i < group_count ws)
@@ -187,13 +187,13 @@ module _ (l₀ : Ledger) (ws : List ℕ) (p : Passed ws (contents l₀)) (l : Le
 
   pub group_owed : (k : ℕ) (d y : Entry) → place (is (number_of x.tx)) 0 (keys_of l.roster) ≡ Some k →
       Means (with_departed_by shard (plain_entry (lying_at l k d))) y →
-      Rebuilding l₀ ws (storing l (slot_at l k) y) (start + reach_at ws i) n (i + 1)
-  group_owed k d y e w =
-      let b = changed l v.doing.held (number_of x.tx) k y d (with_departed_by shard) e w.fits w.plain (λ z. refl)
-      (with-name (contents l) (number_of x.tx) shard (departed_by-shard shard p.shard) v.doing.held.good) in
+      (z : length (set l.entries (slot_at l k) y) ≡ 48) → Rebuilding l₀ ws (storing l (slot_at l k) y z) (start + reach_at ws i) n (i + 1)
+  group_owed k d y e w s =
+      let b = changed l v.doing.held (number_of x.tx) k y d (with_departed_by shard) e w.plain (λ z. refl)
+      (with-name (contents l) (number_of x.tx) shard (departed_by-shard shard p.shard) v.doing.held.good) s in
       rw (let z : n + 0 ≡ n = omega arith in z) at
       (next true _ (ap (λ t. has transaction_of t (contents l).entries) (sym of_group) ∙ (found_at l v.doing.held (number_of x.tx) k e).known)
-      (subst (λ t. Became (with_entries (change transaction_of t (with_departed_by shard) (contents l).entries) (contents l)) (storing l (slot_at l k) y)) of_group b))
+      (subst (λ t. Became (with_entries (change transaction_of t (with_departed_by shard) (contents l).entries) (contents l)) (storing l (slot_at l k) y s)) of_group b))
 
   unknown : place (is (number_of x.tx)) 0 (keys_of l.roster) ≡ None → has transaction_of g.transaction (contents l).entries ≡ false
   unknown e = ap (λ t. has transaction_of t (contents l).entries) (sym of_group) ∙ (not_found l v.doing.held (number_of x.tx) e).known
@@ -214,12 +214,13 @@ module _ (l₀ : Ledger) (ws : List ℕ) (p : Passed ws (contents l₀)) (l : Le
 
   pub group_new : Every (Holds is_word) ws → (k : ℕ) (r : Roster) → place (is (number_of x.tx)) 0 (keys_of l.roster) ≡ None → k ≡ rank (below (number_of x.tx)) (keys_of l.roster) →
       Inserted l.roster k (number_of x.tx) r →
-      Rebuilding l₀ ws (with_parts l l.rebuilt r (set l.entries (free_slot l.roster) x) l.issuers l.departures) (start + reach_at ws i) (n + 1) (i + 1)
-  group_new words k r e q o =
+      (z : length (set l.entries (free_slot l.roster) x) ≡ 48) →
+      Rebuilding l₀ ws (with_parts l l.rebuilt r (set l.entries (free_slot l.roster) x) l.issuers l.departures z) (start + reach_at ws i) (n + 1) (i + 1)
+  group_new words k r e q o z =
       let goods = every_drop GoodGroup i (record_groups ws) (groups_good ws words p.formed p.timed) in
       let good : GoodGroup g = (rw more at goods).0 in
       let entry : GoodEntry (contents l).local (plain_entry x) = rw m.plain (rebuilt-good (contents l).local shard g p.shard (departed_by-shard shard p.shard) good) in
-      let b = taken_in l v.doing.held k x r l.issuers e q (group_room e) m.fits entry.terms.transaction o (rw m.plain v.doing.held.issuers)
-      (including_good (contents l) (plain_entry x) entry (room-left e) v.doing.held.good) in
+      let b = taken_in l v.doing.held k x r l.issuers e q (group_room e) entry.terms.transaction o (rw m.plain v.doing.held.issuers)
+      (including_good (contents l) (plain_entry x) entry (room-left e) v.doing.held.good) z in
       next false _ (unknown e)
-      (subst (λ y. Became (with_entries (include transaction_of y (contents l).entries) (contents l)) (with_parts l l.rebuilt r (set l.entries (free_slot l.roster) x) l.issuers l.departures)) m.plain b)
+      (subst (λ y. Became (with_entries (include transaction_of y (contents l).entries) (contents l)) (with_parts l l.rebuilt r (set l.entries (free_slot l.roster) x) l.issuers l.departures z)) m.plain b)

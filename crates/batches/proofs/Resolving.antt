@@ -11,7 +11,7 @@ use mathlib.Core.Logic.{◌⊎◌, inl, inr}
 use native.Mathlib.Omega.{arith}
 use lib.Dec.{eqb, leb}
 use borrow.Author.Tests.{leb-true, le-leb, eqb-false}
-use lib.ListN.{drop}
+use lib.ListN.{length, drop, set}
 use Rattle.lists.specs.Lists.{keep, has, get, change, self}
 use Rattle.lists.specs.Arrays.{place}
 use Rattle.lists.proofs.Items.{counted-few}
@@ -170,13 +170,14 @@ module _ (l₀ : Ledger) (ws : List ℕ) (l : Ledger) (released i : ℕ) (v : Re
         let both = sym (ap plain_ruling q) ∙ said in
         absurd (let z : ◌≡◌ {A = ℕ} 0 1 = cc in omega arith)
 
-    pub line-resolve : s ≡ Resolve → (y : Entry) → Means (with_part remainder (plain_entry old)) y → Resolving l₀ ws (storing l (slot_at l k) y) released (i + 1)
-    line-resolve q y m =
+    pub line-resolve : s ≡ Resolve → (y : Entry) → Means (with_part remainder (plain_entry old)) y → (z : length (set l.entries (slot_at l k) y) ≡ 48) →
+        Resolving l₀ ws (storing l (slot_at l k) y z) released (i + 1)
+    line-resolve q y m u =
         let good = resolve-good (contents l) tx (plain_entry old) ((found_at l v.held tx k e).got d) (resolves_core (contents l).local (deciding ws) x (plain_entry old) (on resolve (ap plain_ruling q))) v.held.good in
-        same _ released (next resolve _ (rules resolve (ap plain_ruling q)) (changed l v.held tx k y d (with_part remainder) e m.fits m.plain (λ z. refl) good))
+        same _ released (next resolve _ (rules resolve (ap plain_ruling q)) (changed l v.held tx k y d (with_part remainder) e m.plain (λ z. refl) good u))
 
     pub line-release : s ≡ Release → (r : Roster) (ix : Issuers) → Removed l.roster k r → issuers.Holds (keep (is_not tx) (pairs_in l.issuers)) ix →
-        Resolving l₀ ws (with_parts l l.rebuilt r l.entries ix l.departures) (released + 1) (i + 1)
+        (z : length l.entries ≡ 48) → Resolving l₀ ws (with_parts l l.rebuilt r l.entries ix l.departures z) (released + 1) (i + 1)
     unfolding after_forget
-    line-release q r ix c w =
-        next release _ (rules release (ap plain_ruling q)) (let_go l v.held tx k r ix e c w (step-good (forget tx) tt (contents l) v.held.good))
+    line-release q r ix c w z =
+        next release _ (rules release (ap plain_ruling q)) (let_go l v.held tx k r ix e c w (step-good (forget tx) tt (contents l) v.held.good) z)

@@ -3,7 +3,7 @@ ghost use Rattle.std.specs.Prelude.{◌≡◌, [], ◌≤◌, length, take, IfOk
 ghost use Rattle.lists.specs.Lists.{has, self as itself};
 ghost use Rattle.rules.specs.Calls.{after_abandonment};
 ghost use Rattle.rules.specs.Words.{group_count};
-ghost use Rattle.store.specs.Roster.{Sound, keys_of};
+ghost use Rattle.store.specs.Roster.{keys_of};
 ghost use Rattle.ledger.specs.Contents.{Held, contents};
 ghost use Rattle.ledger.specs.Meets.{Meets};
 ghost use Rattle.types.specs.Refusals.{refused_in};
@@ -31,7 +31,6 @@ fn is_among(groups: Record<'_>, n: usize, tx: Transaction) -> bool
 
 // How many distinct transactions are not yet owed: a group counts if no earlier one is of its transaction.
 fn count_new(roster: Roster, groups: Record<'_>) -> usize
-    requires { Sound roster }
     ensures { result ≡ length (new_to (keys_of roster) (transactions groups.entry.words.now)) }
 {
     let mut count = 0;
@@ -50,7 +49,6 @@ fn count_new(roster: Roster, groups: Record<'_>) -> usize
 
 // The words of a record and the room that they ask for, by the table.
 fn check(roster: Roster, words: &[u64]) -> Result<Record<'_>, Refusal>
-    requires { Sound roster }
     ensures refused { refused_in result ≡ refusal_by (keys_of roster) words.now }
     ensures read { IfOk result (λ r. r.words.now ≡ words.now) }
 {

@@ -23,7 +23,7 @@ use Rattle.rules.specs.Outcome.{Outcome, done, ◌gives◌then◌, yes_no}
 use Rattle.rules.specs.Calls.{admission, no_room_for, admission_refusal, after_admission}
 use Rattle.rules.specs.Good.{Holds, Good}
 use Rattle.rules.proofs.Kept.{step-good}
-use Rattle.rules.proofs.Named.{IsOfWord, index-size, index_rises, good-words}
+use Rattle.rules.proofs.Named.{IsOfWord, index-size, good-words}
 use Rattle.rules.proofs.Reindex.{index_of-include}
 use Rattle.types.specs.declared.refusal.Refusal.{Refusal}
 use Rattle.types.specs.declared.refusal.Refusal.TheVariants.{EntriesFull}
@@ -156,19 +156,14 @@ module _ (l : Ledger) (h : Held l) (ws : List ℕ) where
               let pairs : index (with_entries (include transaction_of (plain_entry x) (contents l).entries) (contents l)) ≡ with_pairs l.local.0 x l.issuers =
               index_of-include l.local.0 (plain_entry x) (contents l).entries word (good-words h.good) unknown
               ∙ ap (include_all pair_key (pairs_of l.local.0 (plain_entry x))) (sym h.issuers.pairs) in
-              record {
-                sound = h.issuers.sound;
-                rising = rw h.issuers.pairs (index_rises (contents l));
-                fits = m.fits;
-                room = omega (arith, ap length pairs, index-size (with_entries (include transaction_of (plain_entry x) (contents l).entries) (contents l)) good);
-              }
+              omega (arith, ap length pairs, index-size (with_entries (include transaction_of (plain_entry x) (contents l).entries) (contents l)) good)
 
           pub admits : (k : ℕ) → k ≡ rank (below t) (keys_of l.roster) → (b : Roster) → Inserted l.roster k t b → (y : Issuers) → issuers.Holds (with_pairs l.local.0 x l.issuers) y →
-              Meets (after_admission ws (contents l)) [] [] (says 1 (with_parts l l.rebuilt b (set l.entries (free_slot l.roster) x) y l.departures))
+              (z : length (set l.entries (free_slot l.roster) x) ≡ 48) → Meets (after_admission ws (contents l)) [] [] (says 1 (with_parts l l.rebuilt b (set l.entries (free_slot l.roster) x) y l.departures z))
           unfolding after_admission
-          admits k v b op y i =
+          admits k v b op y i z =
               let taken =
-              taken_in l h k x b y missed (rw same v) free m.fits word (rw same op)
-              (record { sound = i.sound; pairs = i.pairs ∙ ap (include_all pair_key (pairs_of l.local.0 (plain_entry x))) h.issuers.pairs }) good in
+              taken_in l h k x b y missed (rw same v) free word (rw same op)
+              (record { pairs = i.pairs ∙ ap (include_all pair_key (pairs_of l.local.0 (plain_entry x))) h.issuers.pairs }) good z in
               passes (admission_refusal ws (contents l)) (contents l) o [] [] _ fits
               (rw ((not_found l h t u).known, ← plain) (answers 1 _ _ _ taken refl))

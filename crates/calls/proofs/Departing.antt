@@ -12,7 +12,6 @@ use Rattle.std.specs.Prelude.{Option, Some, None, is_some}
 use Rattle.lists.specs.Arrays.{place}
 use Rattle.lists.proofs.Loops.{located, missing}
 use Rattle.lists.proofs.Tests.{same_test}
-use Rattle.lists.proofs.Order.{ascending-include}
 use Rattle.lists.specs.Lists.{at, has, change}
 use Rattle.lists.proofs.Keep.{length-change_if}
 use Rattle.rules.specs.Numbers.{is_time, is_shard}
@@ -43,12 +42,12 @@ module _ (l : Ledger) (h : Held l) (shard : ℕ) where
     stamp-refused r e = refuses r l [] (stamp_refusal shard until) _ h (sym e)
 
     pub stamp-known : stamp_refusal shard until ≡ 0 → (x : Departures) → departures.Holds (change shard_of shard (stamped until) (on_file l.departures)) x →
-        Meets (after_stamp shard until (contents l)) [] [] (says 0 (with_parts l l.rebuilt l.roster l.entries l.issuers x))
+        (z : length l.entries ≡ 48) → Meets (after_stamp shard until (contents l)) [] [] (says 0 (with_parts l l.rebuilt l.roster l.entries l.issuers x z))
     unfolding after_stamp contents
-    stamp-known none x f =
+    stamp-known none x f z =
         let o = done [] (with_departures (change shard_of shard (stamped until) (contents l).departures) (contents l)) in
-        passes (stamp_refusal shard until) (contents l) o [] [] (says 0 (with_parts l l.rebuilt l.roster l.entries l.issuers x)) none
-        (silent (with_parts l l.rebuilt l.roster l.entries l.issuers x) _ _ (filed l h _ x f (good-after (stamp_refusal shard until) (contents l) o none (step-good (stamp shard until) tt (contents l) h.good))) refl)
+        passes (stamp_refusal shard until) (contents l) o [] [] (says 0 (with_parts l l.rebuilt l.roster l.entries l.issuers x z)) none
+        (silent (with_parts l l.rebuilt l.roster l.entries l.issuers x z) _ _ (filed l h _ x f (good-after (stamp_refusal shard until) (contents l) o none (step-good (stamp shard until) tt (contents l) h.good)) z) refl)
 
   -- Terminal.
   module _ (cut is_stamped until : ℕ) where
@@ -117,11 +116,11 @@ module _ (l : Ledger) (h : Held l) (shard : ℕ) where
           go false g = omega (arith, g.departures.count, length-change_if (at shard_of shard) (stamped until) (departed shard cut (contents l).departures))
 
       pub terminal_filed : (x : Departures) → departures.Holds (filed_as shard cut is_stamped until (on_file l.departures)) x →
-          Meets (after_terminal shard cut is_stamped until (contents l)) [] [] (says 0 (with_parts l l.rebuilt l.roster l.entries l.issuers x))
+          (z : length l.entries ≡ 48) → Meets (after_terminal shard cut is_stamped until (contents l)) [] [] (says 0 (with_parts l l.rebuilt l.roster l.entries l.issuers x z))
       unfolding after_terminal contents
-      terminal_filed x f =
-          passes (terminal_refusal shard cut is_stamped until (contents l)) (contents l) (done [] _) [] [] (says 0 (with_parts l l.rebuilt l.roster l.entries l.issuers x)) none
-          (silent (with_parts l l.rebuilt l.roster l.entries l.issuers x) _ _ (filed l h _ x f good) refl)
+      terminal_filed x f z =
+          passes (terminal_refusal shard cut is_stamped until (contents l)) (contents l) (done [] _) [] [] (says 0 (with_parts l l.rebuilt l.roster l.entries l.issuers x z)) none
+          (silent (with_parts l l.rebuilt l.roster l.entries l.issuers x z) _ _ (filed l h _ x f good z) refl)
 
 -- a shard put on file unstamped, and stamped
 module _ (shard cut is_stamped until : ℕ) (d : Departures) where
@@ -130,14 +129,7 @@ module _ (shard cut is_stamped until : ℕ) (d : Departures) where
 
   pub filed_dated : (is_stamped ≡ 0 → ⊥) → (x y : Departures) → departures.Holds (departed shard cut (on_file d)) x → departures.Holds (change shard_of shard (stamped until) (on_file x)) y →
       departures.Holds (filed_as shard cut is_stamped until (on_file d)) y
-  filed_dated z x y f g = rw (ne_eqb is_stamped 0 z) (record { sound = g.sound; file = g.file ∙ ap (change shard_of shard (stamped until)) f.file })
-
-  pub rises_after : departures.Rising d → (x : Departures) → departures.Holds (departed shard cut (on_file d)) x → departures.Rising x
-  rises_after r x f = rw f.file (ascending-include shard_of _ (on_file d) r)
-
-pub file_rises : (l : Ledger) → Held l → departures.Rising l.departures
-unfolding contents
-file_rises l h = h.good.departures.rows.order
+  filed_dated z x y f g = rw (ne_eqb is_stamped 0 z) (record { file = g.file ∙ ap (change shard_of shard (stamped until)) f.file })
 
 -- room: the shard stands, or fewer than 32 do
 pub room-known : (n : ℕ) (k : Bool) → k ≡ true → true ≡ k || not (leb 32 n)

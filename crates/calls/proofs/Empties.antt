@@ -1,11 +1,10 @@
 -- An empty ledger is held where its local is a shard and its spans are spans.
 -- Assumes nothing.
-use Prim.Native.Nat.{ℕ, zero, suc}
+use Prim.Native.Nat.{ℕ}
 use mathlib.Core.Path.{◌≡◌, refl, ◌∙◌}
 use mathlib.Core.Bool.{true, false}
 use mathlib.Core.List.{[], ◌∷◌}
-use lib.ListN.{length, replicate}
-use Rattle.lists.specs.Lists.{Every, all_of}
+use Rattle.lists.specs.Lists.{all_of}
 use Rattle.rules.specs.Numbers.{is_shard, is_span}
 use Rattle.rules.specs.Plain.{empty}
 use Rattle.rules.specs.Index.{index}
@@ -15,8 +14,6 @@ use Rattle.rules.specs.Good.{Good}
 use Rattle.rules.proofs.Kept.{making-good}
 use Rattle.types.specs.declared.refusal.Refusal.{Refusal}
 use Rattle.types.specs.Refusals.{refusal_number}
-use Rattle.entry.specs.declared.Entry.{Entry}
-use Rattle.entry.specs.Entry.{Fits}
 use Rattle.store.specs.Roster as roster
 use Rattle.store.specs.Issuers as issuers
 use Rattle.store.specs.Departures as departures
@@ -26,27 +23,19 @@ use Rattle.ledger.specs.Meets.{Meets, says, says_no}
 use Rattle.ledger.proofs.Meeting.{numbered, passes, silent}
 use Rattle.calls.specs.Fresh.{Fresh}
 
-pub every_replicate : (n : ℕ) (e : Entry) → Fits e → Every Fits (replicate n e)
-every_replicate zero e f = tt
-every_replicate (suc n) e f = (f, every_replicate n e f)
-
 -- the parts of an empty ledger make one
-pub fresh : (l : Ledger) → roster.Fresh l.roster → length l.entries ≡ 48 → Every Fits l.entries → issuers.Holds [] l.issuers → departures.Holds [] l.departures →
+pub fresh : (l : Ledger) → roster.Fresh l.roster → issuers.Holds [] l.issuers → departures.Holds [] l.departures →
     l.rebuilt ≡ 0 → Fresh l.local.0 l.validity l.core_span l.leg_span l
 unfolding contents
-fresh l r n f i d z = record { roster = r; slots = n; fits = f; issuers = i; departures = d; contents = rw (r.none, d.file, z) }
+fresh l r i d z = record { roster = r; issuers = i; departures = d; contents = rw (r, d.file, z) }
 
 fresh_held : (local v c s : ℕ) (l : Ledger) → Fresh local v c s l → Good (empty local v c s) → Held l
 unfolding contents index
 fresh_held local v c s l f g =
-    let none : l.roster.len ≡ 0 = f.roster.none in
+    let none : l.roster.len ≡ 0 = f.roster in
     record {
-      roster = f.roster.sound;
       keyed = rw none;
-      slots = f.slots;
-      fits = f.fits;
-      issuers = record { sound = f.issuers.sound; pairs = f.issuers.pairs ∙ rw none };
-      departures = f.departures.sound;
+      issuers = record { pairs = f.issuers.pairs ∙ rw none };
       good = rw f.contents g;
     }
 

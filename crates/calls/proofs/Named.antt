@@ -8,16 +8,16 @@ use native.Mathlib.Omega.{arith}
 use lib.Dec.{eqb, ltb}
 use lib.ListN.{length, drop, get_or}
 use Rattle.lists.specs.Lists.{cons_if, keep, include, include_all}
-use Rattle.lists.proofs.Order.{ascending-include_all}
 use Rattle.rules.specs.Numbers.{record_key}
 use Rattle.rules.specs.Plain.{Edge}
 use Rattle.rules.specs.Index.{Pair, pair_key}
 use Rattle.types.specs.Transactions.{number_of}
 use Rattle.entry.specs.declared.Entry.{Entry}
 use Rattle.entry.specs.Entry.{plain_entry, edges_of}
+use Rattle.entry.proofs.Shape.{fits_of}
 use Rattle.entry.proofs.Edges.{edges-cons, edges-end}
 use Rattle.store.specs.declared.issuers.Issuers.{Issuers}
-use Rattle.store.specs.Issuers.{Rising, Holds, pair, pairs_in, room_for}
+use Rattle.store.specs.Issuers.{Holds, pair, pairs_in, room_for}
 use Rattle.calls.specs.Naming.{Nameable, with_pairs}
 
 -- putting in leaves no list shorter
@@ -53,28 +53,25 @@ pub record NamedFrom (x₀ : Issuers) (e : Entry) (local : ℕ) (x : Issuers) (i
   pub low : i ≤ e.edges_len
   pub holds : Holds (include_all pair_key (pairs_from local e i) (pairs_in x₀)) x
 
-pub named_none : (x₀ : Issuers) (e : Entry) (local : ℕ) → Nameable x₀ e local → NamedFrom x₀ e local x₀ e.edges_len
-named_none x₀ e local n =
-    record { low = omega arith; holds = record { sound = n.sound; pairs = rw (edges-end e n.fits e.edges_len (omega arith)) } }
+pub named_none : (x₀ : Issuers) (e : Entry) (local : ℕ) → NamedFrom x₀ e local x₀ e.edges_len
+named_none x₀ e local =
+    record { low = omega arith; holds = record { pairs = rw (edges-end e (fits_of e) e.edges_len (omega arith)) } }
 
 pub named-all : (x₀ : Issuers) (e : Entry) (local : ℕ) (x : Issuers) (i : ℕ) → NamedFrom x₀ e local x i → i ≤ 0 → Holds (with_pairs local e x₀) x
 unfolding plain_entry
 named-all x₀ e local x i v h =
     let z : i ≡ 0 = omega arith in
-    record { sound = v.holds.sound; pairs = v.holds.pairs ∙ rw z }
+    record { pairs = v.holds.pairs ∙ rw z }
 
 module _ (x₀ : Issuers) (e : Entry) (local : ℕ) (x : Issuers) (i : ℕ) (n : Nameable x₀ e local) (v : NamedFrom x₀ e local x i) (h : 0 < i) where
   next : i - 1 + 1 ≡ i
   next = omega arith
 
   hit : eqb (get_or e.froms (i - 1) 0) local ≡ true → pairs_from local e (i - 1) ≡ pair (record_key (get_or e.ids (i - 1) 0)) (number_of e.tx) ∷ pairs_from local e i
-  hit t = rw (edges-cons e n.fits (i - 1) (omega (arith, v.low)), t, next)
+  hit t = rw (edges-cons e (fits_of e) (i - 1) (omega (arith, v.low)), t, next)
 
   miss : eqb (get_or e.froms (i - 1) 0) local ≡ false → pairs_from local e (i - 1) ≡ pairs_from local e i
-  miss t = rw (edges-cons e n.fits (i - 1) (omega (arith, v.low)), t, next)
-
-  pub named-rising : Rising x
-  named-rising = rw v.holds.pairs (ascending-include_all pair_key (pairs_from local e i) (pairs_in x₀) n.rising)
+  miss t = rw (edges-cons e (fits_of e) (i - 1) (omega (arith, v.low)), t, next)
 
   module _ (r : ℕ) (q : r ≡ record_key (get_or e.ids (i - 1) 0)) (t : eqb (get_or e.froms (i - 1) 0) local ≡ true) where
     more : include pair_key (pair r (number_of e.tx)) (pairs_in x) ≡ include_all pair_key (pairs_from local e (i - 1)) (pairs_in x₀)
@@ -85,13 +82,13 @@ module _ (x₀ : Issuers) (e : Entry) (local : ℕ) (x : Issuers) (i : ℕ) (n :
     named-room =
         omega (
           arith,
-          n.room,
+          n,
           ap length more,
           fewer_from pair_key (λ (r : ℕ). record { key = r; transaction = number_of e.tx }) (λ (g : Edge). record_key g.id) (λ g. eqb g.from local) (i - 1) (edges_of e) (pairs_in x₀),
         )
 
     pub named_one : (y : Issuers) → Holds (include pair_key (pair r (number_of e.tx)) (pairs_in x)) y → NamedFrom x₀ e local y (i - 1)
-    named_one y k = record { low = omega (arith, v.low); holds = record { sound = k.sound; pairs = k.pairs ∙ more } }
+    named_one y k = record { low = omega (arith, v.low); holds = record { pairs = k.pairs ∙ more } }
 
   pub named_other : eqb (get_or e.froms (i - 1) 0) local ≡ false → NamedFrom x₀ e local x (i - 1)
-  named_other t = record { low = omega (arith, v.low); holds = record { sound = v.holds.sound; pairs = v.holds.pairs ∙ ap (λ ps. include_all pair_key ps (pairs_in x₀)) (sym (miss t)) } }
+  named_other t = record { low = omega (arith, v.low); holds = record { pairs = v.holds.pairs ∙ ap (λ ps. include_all pair_key ps (pairs_in x₀)) (sym (miss t)) } }

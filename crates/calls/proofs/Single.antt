@@ -6,7 +6,7 @@ use mathlib.Core.Path.{◌≡◌, refl, ap, sym, ◌∙◌, subst}
 use mathlib.Core.Bool.{Bool, true, false, ◌&&◌}
 use mathlib.Core.List.{[], ◌∷◌}
 use native.Mathlib.Omega.{arith}
-use lib.ListN.{length, get_or}
+use lib.ListN.{length, get_or, set}
 use borrow.Author.Tests.{lt-ltb, le-ltb, le-leb, lt-leb}
 use Rattle.lists.specs.Lists.{keep, change, Ascending}
 use Rattle.lists.specs.Arrays.{place}
@@ -16,13 +16,14 @@ use Rattle.lists.proofs.Change.{change_same}
 use Rattle.rules.specs.Numbers.{is_word, is_shard}
 use Rattle.rules.specs.Plain.{Absence, transaction_of, absence_key, with_entries, entry_of, is_leg, is_settling, issues}
 use Rattle.rules.specs.Entries.{certified, with_absences, read_absent, is_read, marked}
-use Rattle.rules.specs.Outcome.{done, yes_no}
+use Rattle.rules.specs.Outcome.{Outcome, done, yes_no}
 use Rattle.rules.specs.Calls.{forget, certify, absence, settled, returned, after_forget, after_fated, certify_refusal, after_certify, is_new, absence_refusal, after_absence, after_mark}
 use Rattle.rules.specs.Good.{Good}
 use Rattle.rules.proofs.Kept.{step-good}
 use Rattle.types.specs.declared.refusal.Refusal.TheVariants.{NoShard, Malformed, AbsencesFull}
 use Rattle.entry.specs.declared.Entry.{Entry}
-use Rattle.entry.specs.Entry.{plain_entry, absences_of, Fits, Means, RoomForAbsence}
+use Rattle.entry.specs.Entry.{plain_entry, absences_of, Means, RoomForAbsence}
+use Rattle.entry.proofs.Shape.{fits_of}
 use Rattle.entry.proofs.Absent.{length-absences}
 use Rattle.store.specs.declared.roster.Roster.{Roster}
 use Rattle.store.specs.declared.issuers.Issuers.{Issuers}
@@ -36,6 +37,11 @@ use Rattle.ledger.proofs.Places.{Owed, owed_in, found_at, not_found}
 use Rattle.ledger.proofs.Lift.{changed, let_go}
 use Rattle.ledger.proofs.Meeting.{refuses, passes, answers, silent, good-after, stays}
 
+-- what is said of the ledger with the entry stored at one slot, at the same slot by another name
+stored : (o : Outcome) (n : ℕ) (l : Ledger) (x : Entry) {s k : ℕ} → s ≡ k → (z : length (set l.entries s x) ≡ 48) →
+    ((u : length (set l.entries k x) ≡ 48) → Meets o [] [] (says n (storing l k x u))) → Meets o [] [] (says n (storing l s x z))
+stored o n l x {s} {k} e = subst (λ y. (z : length (set l.entries y x) ≡ 48) → ((u : length (set l.entries k x) ≡ 48) → Meets o [] [] (says n (storing l k x u))) → Meets o [] [] (says n (storing l y x z))) (sym e) (λ z f. f z)
+
 -- Forget.
 module _ (l : Ledger) (h : Held l) (t : ℕ) where
   pub forget_unknown : place (is t) 0 (keys_of l.roster) ≡ None → Meets (after_forget t (contents l)) [] [] (says 0 l)
@@ -45,12 +51,12 @@ module _ (l : Ledger) (h : Held l) (t : ℕ) where
       rw (w.known, w.gone) (answers 0 l (contents l) (says 0 l) (stays l h (contents l) refl) refl)
 
   pub forget-owed : (k : ℕ) → place (is t) 0 (keys_of l.roster) ≡ Some k → (r : Roster) (x : Issuers) → Removed l.roster k r →
-      issuers.Holds (keep (is_not t) (pairs_in l.issuers)) x → Meets (after_forget t (contents l)) [] [] (says 1 (with_parts l l.rebuilt r l.entries x l.departures))
+      issuers.Holds (keep (is_not t) (pairs_in l.issuers)) x → (s : length l.entries ≡ 48) → Meets (after_forget t (contents l)) [] [] (says 1 (with_parts l l.rebuilt r l.entries x l.departures s))
   unfolding after_forget
-  forget-owed k e r x c i =
+  forget-owed k e r x c i s =
       let a = found_at l h t k e in
-      let b = let_go l h t k r x e c i (step-good (forget t) tt (contents l) h.good) in
-      rw a.known (answers 1 (with_parts l l.rebuilt r l.entries x l.departures) _ _ b refl)
+      let b = let_go l h t k r x e c i (step-good (forget t) tt (contents l) h.good) s in
+      rw a.known (answers 1 (with_parts l l.rebuilt r l.entries x l.departures s) _ _ b refl)
 
   -- Fated.
   pub fated_unknown : place (is t) 0 (keys_of l.roster) ≡ None → Meets (after_fated t (contents l)) [] [] (says 0 l)
@@ -64,12 +70,12 @@ module _ (l : Ledger) (h : Held l) (t : ℕ) where
 
   pub fated-leg : (k : ℕ) (d : Entry) → place (is t) 0 (keys_of l.roster) ≡ Some k →
       is_leg (plain_entry (lying_at l k d)).part ≡ true → (r : Roster) (x : Issuers) → Removed l.roster k r →
-      issuers.Holds (keep (is_not t) (pairs_in l.issuers)) x → Meets (after_fated t (contents l)) [] [] (says 2 (with_parts l l.rebuilt r l.entries x l.departures))
+      issuers.Holds (keep (is_not t) (pairs_in l.issuers)) x → (s : length l.entries ≡ 48) → Meets (after_fated t (contents l)) [] [] (says 2 (with_parts l l.rebuilt r l.entries x l.departures s))
   unfolding after_fated after_forget
-  fated-leg k d e q r x c i =
+  fated-leg k d e q r x c i s =
       let a = found_at l h t k e in
-      let b = let_go l h t k r x e c i (step-good (forget t) tt (contents l) h.good) in
-      rw (a.got d, q) (answers 2 (with_parts l l.rebuilt r l.entries x l.departures) _ _ b refl)
+      let b = let_go l h t k r x e c i (step-good (forget t) tt (contents l) h.good) s in
+      rw (a.got d, q) (answers 2 (with_parts l l.rebuilt r l.entries x l.departures s) _ _ b refl)
 
   -- Certify.
   module _ (code : ℕ) where
@@ -87,14 +93,14 @@ module _ (l : Ledger) (h : Held l) (t : ℕ) where
         (rw ((not_found l h t e).changed (certified code)) (silent l (contents l) (says 0 l) (stays l h (contents l) refl) refl))
 
     pub certify-owed : code ≤ 2 → (s : ℕ) → LiesIn l.roster t s → (d x : Entry) → Means (certified code (plain_entry (get_or l.entries s d))) x →
-        Meets (after_certify t code (contents l)) [] [] (says 0 (storing l s x))
+        (z : length (set l.entries s x) ≡ 48) → Meets (after_certify t code (contents l)) [] [] (says 0 (storing l s x z))
     unfolding after_certify
-    certify-owed q s w d x m =
+    certify-owed q s w d x m z =
         let o = done [] (with_entries (change transaction_of t (certified code) (contents l).entries) (contents l)) in
         let good = good-after (certify_refusal code) (contents l) o (coded q) (step-good (certify t code) tt (contents l) h.good) in
         let there : plain_entry x ≡ certified code (plain_entry (lying_at l w.at d)) = m.plain ∙ ap (λ y. certified code (plain_entry (get_or l.entries y d))) w.slot in
         passes (certify_refusal code) (contents l) o [] [] _ (coded q)
-        (subst (λ y. Meets o [] [] (says 0 (storing l y x))) (sym w.slot) (silent _ _ _ (changed l h t w.at x d (certified code) w.found m.fits there (λ y. refl) good) refl))
+        (stored o 0 l x w.slot z (λ u. silent _ _ _ (changed l h t w.at x d (certified code) w.found there (λ y. refl) good u) refl))
 
   -- Settled and returned.
   module _ (r : ℕ) (is_return : Bool) where
@@ -104,17 +110,17 @@ module _ (l : Ledger) (h : Held l) (t : ℕ) where
         rw ((not_found l h t e).changed (marked (contents l).local r is_return)) (silent l (contents l) (says 0 l) (stays l h (contents l) refl) refl)
 
     pub mark_owed : (s : ℕ) → LiesIn l.roster t s → (d x : Entry) → Means (marked l.local.0 r is_return (plain_entry (get_or l.entries s d))) x →
-        Meets (after_mark r t is_return (contents l)) [] [] (says 0 (storing l s x))
+        (z : length (set l.entries s x) ≡ 48) → Meets (after_mark r t is_return (contents l)) [] [] (says 0 (storing l s x z))
     unfolding after_mark contents
-    mark_owed s w d x m =
+    mark_owed s w d x m z =
         let f = marked l.local.0 r is_return in
         let there : plain_entry x ≡ f (plain_entry (lying_at l w.at d)) = m.plain ∙ ap (λ y. f (plain_entry (get_or l.entries y d))) w.slot in
         let o = done [] (with_entries (change transaction_of t f (contents l).entries) (contents l)) in
-        subst (λ y. Meets o [] [] (says 0 (storing l y x))) (sym w.slot)
-        (silent _ _ _
-        (changed l h t w.at x d f w.found m.fits there
+        stored o 0 l x w.slot z
+        (λ u. silent _ _ _
+        (changed l h t w.at x d f w.found there
         (λ y. by_cond (λ z. z.terms ≡ y.terms) (is_settling y.part && issues l.local.0 r y.terms) _ y (λ _. refl) (λ _. refl))
-        (marked-kept is_return))
+        (marked-kept is_return) u)
         refl)
       where
         marked-kept : (b : Bool) → Good (with_entries (change transaction_of t (marked l.local.0 r b) (contents l).entries) (contents l))
@@ -150,7 +156,7 @@ module _ (l : Ledger) (h : Held l) (t : ℕ) where
 
       abbrev size : length (plain_entry old).absences ≡ old.absences_len
       unfolding plain_entry
-      size = length-absences old (there.fits d)
+      size = length-absences old (fits_of old)
 
       pub absence_full : is_read a (plain_entry old) ≡ false → 8 ≤ old.absences_len → Meets (after_absence t a (contents l)) [] [] (says_no AbsencesFull l)
       unfolding after_absence
@@ -158,18 +164,18 @@ module _ (l : Ledger) (h : Held l) (t : ℕ) where
           refuses AbsencesFull l [] (absence_refusal t a (contents l)) _ h (rw (q, there.got d, i, le-leb 8 (length (plain_entry old).absences) (omega (arith, size))))
 
       pub absence_new : is_read a (plain_entry old) ≡ false → old.absences_len < 8 → is_word a.key ≡ true → (x : Entry) → Means (read_absent a (plain_entry old)) x →
-          Meets (after_absence t a (contents l)) [] [] (says 1 (storing l s x))
+          (z : length (set l.entries s x) ≡ 48) → Meets (after_absence t a (contents l)) [] [] (says 1 (storing l s x z))
       unfolding after_absence
-      absence_new i f w x m =
+      absence_new i f w x m z =
           let o = done (yes_no (is_new a (entry_of t (contents l))) ∷ []) (with_entries (change transaction_of t (read_absent a) (contents l).entries) (contents l)) in
           let none : absence_refusal t a (contents l) ≡ 0 = rw (q, there.got d, i, lt-leb 8 (length (plain_entry old).absences) (omega (arith, size))) in
           let g = good-after (absence_refusal t a (contents l)) (contents l) o none (step-good (absence t a.shard a.key) w (contents l) h.good) in
           let new : plain_entry x ≡ read_absent a (plain_entry (lying_at l lies.at d)) = m.plain ∙ ap (λ y. read_absent a (plain_entry (get_or l.entries y d))) lies.slot in
           passes (absence_refusal t a (contents l)) (contents l) o [] [] _ none
-          (subst (λ y. Meets o [] [] (says 1 (storing l y x))) (sym lies.slot)
-          (rw (there.got d, i) (answers 1 _ _ _ (changed l h t lies.at x d (read_absent a) lies.found m.fits new (λ y. refl) g) refl)))
+          (stored o 1 l x lies.slot z
+          (λ u. rw (there.got d, i) (answers 1 _ _ _ (changed l h t lies.at x d (read_absent a) lies.found new (λ y. refl) g u) refl)))
 
 -- there is room for one more absence
-pub room_for : (e : Entry) (a : Absence) → Fits e → Ascending absence_key (absences_of e) → e.absences_len < 8 → RoomForAbsence a e
+pub room_for : (e : Entry) (a : Absence) → Ascending absence_key (absences_of e) → e.absences_len < 8 → RoomForAbsence a e
 unfolding plain_entry
-room_for e a f r b = record { rising = r; room = omega (arith, length-absences e f, length-include absence_key a (absences_of e)) }
+room_for e a r b = record { rising = r; room = omega (arith, length-absences e (fits_of e), length-include absence_key a (absences_of e)) }

@@ -1,8 +1,6 @@
 -- What an empty ledger has before its local and its spans are known to be valid.
-use Rattle.std.specs.Prelude.{ℕ, ◌≡◌, [], length}
-use Rattle.lists.specs.Lists.{Every}
+use Rattle.std.specs.Prelude.{ℕ, ◌≡◌, []}
 use Rattle.rules.specs.Plain.{empty}
-use Rattle.entry.specs.Entry.{Fits}
 use Rattle.store.specs.Roster as roster
 use Rattle.store.specs.Issuers as issuers
 use Rattle.store.specs.Departures as departures
@@ -11,8 +9,6 @@ use Rattle.ledger.specs.Contents.{contents}
 
 pub record Fresh (local v c l : ℕ) (r : Ledger) : Type 0 where
   pub roster : roster.Fresh r.roster
-  pub slots : length r.entries ≡ 48
-  pub fits : Every Fits r.entries
   pub issuers : issuers.Holds [] r.issuers
   pub departures : departures.Holds [] r.departures
   pub contents : contents r ≡ empty local v c l

@@ -3,7 +3,7 @@ ghost use Rattle.std.specs.Prelude.{◌≡◌, not, ◌||◌, [], leb, length};
 ghost use Rattle.lists.specs.Lists.{has};
 ghost use Rattle.rules.specs.Plain.{shard_of};
 ghost use Rattle.rules.specs.Calls.{after_terminal, after_stamp, stamp_refusal};
-ghost use Rattle.store.specs.Departures.{Sound, Rising, Holds, on_file, room_for};
+ghost use Rattle.store.specs.Departures.{Holds, on_file, room_for};
 ghost use Rattle.ledger.specs.Contents.{Held, contents};
 ghost use Rattle.ledger.specs.Meets.{Meets};
 ghost use Rattle.types.specs.Refusals.{refused_in};
@@ -43,7 +43,6 @@ fn check_terminal(shard: Shard, cut: Time, stamped: u64, until: Time) -> Result<
 
 // Whether the shard is on file already or there is room for it.
 fn has_room(departures: Departures, shard: Shard) -> bool
-    requires { Sound departures }
     ensures { result ≡ has shard_of shard.0 (on_file departures) || not (leb 32 (length (on_file departures))) }
 {
     departures.find(shard).is_some() || departures.len < 32
@@ -51,7 +50,7 @@ fn has_room(departures: Departures, shard: Shard) -> bool
 
 // The departures with the shard's on file, stamped or not yet.
 fn filed(departures: Departures, shard: Shard, cut: Time, stamped: u64, until: Time) -> Departures
-    requires { Sound departures × Rising departures × room_for departures shard.0 cut.0 }
+    requires { room_for departures shard.0 cut.0 }
     ensures { Holds (filed_as shard.0 cut.0 stamped until.0 (on_file departures)) result }
 {
     let known = departures.departed(shard, cut);

@@ -63,7 +63,7 @@ plain_entry e =
       returned = e.returned;
     }
 
--- lengths within their arrays
+-- lengths within their arrays: the type says so of each entry
 pub record Fits (e : Entry) : Type 0 where
   pub routes_len : e.routes_len ≤ 8
   pub core_len : e.core_len ≤ 8
@@ -83,16 +83,14 @@ pub record Fits (e : Entry) : Type 0 where
 
 -- e holds no core, edges, absences and marks
 pub record Blank (e : Entry) : Type 0 where
-  pub fits : Fits e
   pub core_len : e.core_len ≡ 0
   pub edges_len : e.edges_len ≡ 0
   pub absences_len : e.absences_len ≡ 0
   pub marks_len : e.marks_len ≡ 0
   pub returned : e.returned ≡ false
 
--- e fits, and means this entry of the plain ledger
+-- e means this entry of the plain ledger
 pub record Means (p : plain.Entry) (e : Entry) : Type 0 where
-  pub fits : Fits e
   pub plain : plain_entry e ≡ p
 
 -- lower by shard and then key

@@ -22,7 +22,8 @@ use Rattle.rules.specs.Good.{Good, GoodEntry, GoodPart}
 use Rattle.rules.specs.Readings.{is_issuer, issuers_of, ask, questions_of}
 use Rattle.rules.proofs.Named.{index-names}
 use Rattle.entry.specs.declared.Entry.{Entry}
-use Rattle.entry.specs.Entry.{plain_entry, Fits}
+use Rattle.entry.specs.Entry.{plain_entry}
+use Rattle.entry.proofs.Shape.{fits_of}
 use Rattle.entry.proofs.Edges.{starting}
 use Rattle.ledger.specs.declared.Ledger.{Ledger}
 use Rattle.ledger.specs.Contents.{contents, entries_of, Held}
@@ -61,7 +62,6 @@ slot_met l i = get_or (take l.roster.len l.roster.slots) i 0
 
 pub record AtTurn (l : Ledger) (i s : ℕ) : Type 0 where
   pub place : i < 48
-  pub fits : (d : Entry) → Fits (get_or l.entries s d)
   pub good : (d : Entry) → GoodEntry l.local.0 (plain_entry (get_or l.entries s d))
   pub next : (d : Entry) → drop i (entries_of l) ≡ plain_entry (get_or l.entries s d) ∷ drop (i + 1) (entries_of l)
 
@@ -69,7 +69,7 @@ pub at_turn : (l : Ledger) → Held l → (i : ℕ) → i < l.roster.len → AtT
 unfolding contents
 at_turn l h i b =
     let a = entry_at l h i b in
-    rw (get_or-take l.roster.len l.roster.slots i 0 b) (record { place = a.place; fits = a.fits; good = a.good; next = a.next })
+    rw (get_or-take l.roster.len l.roster.slots i 0 b) (record { place = a.place; good = a.good; next = a.next })
 
 -- V is within what a sum of two times fits.
 pub validity-small : (l : Ledger) → Held l → l.validity < 2 ^ 48
@@ -98,10 +98,11 @@ core-has plain.leg local t marks b h g = absurd (false≢true h)
 core-has plain.remainder local t marks b h g = absurd (false≢true h)
 
 -- An entry that asks does so of each core shard but local, which is one of them.
-pub asks_count : (local : ℕ) (e : Entry) → Fits e → GoodEntry local (plain_entry e) → is_asking (plain_entry e) ≡ true →
+pub asks_count : (local : ℕ) (e : Entry) → GoodEntry local (plain_entry e) → is_asking (plain_entry e) ≡ true →
     length (asks_of local (plain_entry e)) + 1 ≡ e.core_len
 unfolding plain_entry
-asks_count local e f g h =
+asks_count local e g h =
+    let f = fits_of e in
     let p = plain_entry e in
     let cores = take e.core_len e.core in
     let known = core-has p.part local p.terms p.marks p.returned (and_left (is_core p.part) (not (is_covered p)) h) g.part in
@@ -113,9 +114,10 @@ asks_count local e f g h =
     )
 
 -- The questions of an entry: none, or one for each core shard but local.
-pub asks_few : (local : ℕ) (e : Entry) → Fits e → length (asks_of local (plain_entry e)) ≤ 8
+pub asks_few : (local : ℕ) (e : Entry) → length (asks_of local (plain_entry e)) ≤ 8
 unfolding plain_entry
-asks_few local e f =
+asks_few local e =
+    let f = fits_of e in
     let cores = take e.core_len e.core in
     omega (arith, f.core_len, length-map (keep (λ (s : ℕ). not (eqb s local)) cores) (ask (plain_entry e)), length-keep (λ (s : ℕ). not (eqb s local)) cores, length-take-le e.core_len e.core (omega (arith, f.core_len, f.core)))
 
@@ -135,14 +137,14 @@ next_silent local x l m e h = rw (e, h)
 pub asks_none : (local : ℕ) (x : plain.Entry) → is_asking x ≡ false → length (questions_of local x) ≡ 0
 asks_none local x h = rw h
 
-pub asks_some : (local : ℕ) (e : Entry) → Fits e → GoodEntry local (plain_entry e) → is_asking (plain_entry e) ≡ true → 1 ≤ e.core_len
-asks_some local e f g h = omega (arith, asks_count local e f g h)
+pub asks_some : (local : ℕ) (e : Entry) → GoodEntry local (plain_entry e) → is_asking (plain_entry e) ≡ true → 1 ≤ e.core_len
+asks_some local e g h = omega (arith, asks_count local e g h)
 
-pub asks_all : (local : ℕ) (e : Entry) → Fits e → GoodEntry local (plain_entry e) → is_asking (plain_entry e) ≡ true →
+pub asks_all : (local : ℕ) (e : Entry) → GoodEntry local (plain_entry e) → is_asking (plain_entry e) ≡ true →
     (e.core_len - 1 ≡ length (questions_of local (plain_entry e))) × (e.core_len - 1 ≤ 8)
-asks_all local e f g h =
+asks_all local e g h =
     let all : length (questions_of local (plain_entry e)) ≡ length (asks_of local (plain_entry e)) = rw h in
-    (omega (arith, asks_count local e f g h, all), omega (arith, f.core_len))
+    (omega (arith, asks_count local e g h, all), omega (arith, (fits_of e).core_len))
 
 pub asks_next : (local : ℕ) (x : plain.Entry) (l m : List plain.Entry) → l ≡ x ∷ m →
     length (concat_map (questions_of local) l) ≡ length (questions_of local x) + length (concat_map (questions_of local) m)

@@ -8,7 +8,7 @@ use Rattle.rules.specs.Plain.{transaction_of}
 use Rattle.rules.specs.Words.{transaction_words}
 use Rattle.rules.specs.Good.{GoodEntry}
 use Rattle.entry.specs.declared.Entry.{Entry}
-use Rattle.entry.specs.Entry.{plain_entry, Fits}
+use Rattle.entry.specs.Entry.{plain_entry}
 use Rattle.ledger.specs.declared.Ledger.{Ledger}
 use Rattle.ledger.specs.Contents.{contents}
 
@@ -25,7 +25,7 @@ item_words row e = transaction_words (transaction_of e) ++ row e
 -- what is said of each entry that is good for a shard is its row, if it passes a test
 abbrev pub Picks : {R : Type 0} → (R → List ℕ) → (Entry → Option R → Type 0) → ℕ → (plain.Entry → Bool) → (plain.Entry → List ℕ) → Type 0
 Picks {R} items Says local p row =
-    (e : Entry) (r : Option R) → Fits e → GoodEntry local (plain_entry e) → Says e r →
+    (e : Entry) (r : Option R) → GoodEntry local (plain_entry e) → Says e r →
     MatchOption r (p (plain_entry e) ≡ false) (λ x. (p (plain_entry e) ≡ true) × (items x ≡ row (plain_entry e)))
 
 -- by whatever test and row those answers pick, the items of the entries that pass are written from the front on

@@ -12,7 +12,7 @@ ghost use Rattle.rules.specs.Readings.{read, ask_questions, list_past_deadline, 
 ghost use Rattle.rules.specs.Good.{GoodEntry};
 ghost use Rattle.rules.specs.Numbers.{max_entries};
 ghost use Rattle.rules.specs.Widths.{question_size};
-ghost use Rattle.entry.specs.Entry.{plain_entry, Fits};
+ghost use Rattle.entry.specs.Entry.{plain_entry};
 ghost use Rattle.ledger.specs.Contents.{contents, Held};
 ghost use Rattle.readings.specs.Reads.{Reads};
 ghost use Rattle.entry_lists.specs.Tests.{is_asking, asks_of, is_past, holds_id};
@@ -41,7 +41,6 @@ fn put_item(tx: Transaction, row: &[u64], words: &mut [u64], at: usize)
 // Whether the entry asks: an uncovered core.
 #[tactic(auto, unfolding(entry::specs::Entry::plain_entry))]
 fn is_asking(e: &Entry) -> bool
-    requires { Fits e.now }
     ensures { result ≡ is_asking (plain_entry e.now) }
 {
     e.part.is_core() && !e.covered()
@@ -49,7 +48,7 @@ fn is_asking(e: &Entry) -> bool
 
 // The entry's questions, five words each, put behind those that are there; how many there are then.
 fn put_questions(e: &Entry, local: Shard, from: usize, words: &mut [u64]) -> usize
-    requires { Fits e.now × (question_size * (from + length (asks_of local.0 (plain_entry e.now))) ≤ length words.old) }
+    requires { question_size * (from + length (asks_of local.0 (plain_entry e.now))) ≤ length words.old }
     ensures { Ran question_words question_size (asks_of local.0 (plain_entry e.now)) words.old from words.new result }
 {
     let mut count = from;
@@ -68,7 +67,7 @@ fn put_questions(e: &Entry, local: Shard, from: usize, words: &mut [u64]) -> usi
 // How many questions the entry asks. A core has local in it, of which nothing is asked.
 #[tactic(auto, using(crate::proofs::ByEntry::asks_some, crate::proofs::ByEntry::asks_all, crate::proofs::ByEntry::asks_none))]
 fn asks(e: &Entry, local: Shard) -> usize
-    requires { Fits e.now × GoodEntry local.0 (plain_entry e.now) }
+    requires { GoodEntry local.0 (plain_entry e.now) }
     ensures { (result ≡ length (questions_of local.0 (plain_entry e.now))) × (result ≤ 8) }
 {
     if is_asking(e) {
@@ -119,7 +118,7 @@ pub fn questions(ledger: Ledger, lent: &mut [u64]) -> Result<u64, Refusal>
 // Whether the entry is past its deadline and no settlement ends it.
 #[tactic(auto, unfolding(entry::specs::Entry::plain_entry))]
 fn is_past(e: &Entry, validity: u64, time: Time) -> bool
-    requires { Fits e.now × (e.now.at.0 < 2 ^ 48) × (validity < 2 ^ 48) }
+    requires { (e.now.at.0 < 2 ^ 48) × (validity < 2 ^ 48) }
     ensures { result ≡ is_past validity time.0 (plain_entry e.now) }
 {
     let is_unexecuted = e.certified < Certificate::ByExecution;
@@ -136,7 +135,7 @@ fn gather<R: AsSlice<u64> + Copy, F: Fn(&Entry) -> Option<R>>(
     words: &mut [u64],
 ) -> usize
     requires held { Held ledger.now }
-    requires callable { (e : _) → Fits e.now → GoodEntry ledger.now.local.0 (plain_entry e.now) → F.pre row_of e }
+    requires callable { (e : _) → GoodEntry ledger.now.local.0 (plain_entry e.now) → F.pre row_of e }
     requires sizes { (e : _) (r : R) → F.post row_of e (Some r) → length (R.items r) + 1 ≡ size }
     requires room { max_entries * size ≤ length words.old }
     ensures few { result ≤ max_entries }
@@ -178,7 +177,6 @@ fn is_crossing(from: Shard, held: u64, local: Shard, id: u64) -> bool
 
 // Whether an edge from local has this very id.
 fn issues_id(e: &Entry, local: Shard, id: u64) -> bool
-    requires { Fits e.now }
     ensures { result ≡ holds_id local.0 id (plain_entry e.now) }
 {
     let n = e.edges_len as usize;

@@ -47,13 +47,12 @@ impl Seen {
 impl View {
     ghost use Rattle.lists.specs.Lists.{Every};
     ghost use Rattle.rules.specs.Good.{GoodDeparture};
-    ghost use Rattle.store.specs.Departures.{on_file, Sound};
+    ghost use Rattle.store.specs.Departures.{on_file};
     ghost use Rattle.judge.specs.View.{Shows};
     ghost use Rattle.judge.specs.Answers.{SaysNamed};
 
     pub fn of(d: Departures, time: Time) -> View
-        requires sound { Sound d }
-        requires every { Every GoodDeparture (on_file d) }
+        requires { Every GoodDeparture (on_file d) }
         ensures { Shows (on_file d) time.0 result }
     {
         let none = Seen {

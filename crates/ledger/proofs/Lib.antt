@@ -2,3 +2,4 @@ pub mod Places
 pub mod Lift
 pub mod Meeting
 pub mod Doing
+pub mod Whole

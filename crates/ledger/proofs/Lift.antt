@@ -7,12 +7,12 @@ use mathlib.Core.Path.{◌≡◌, refl, sym, ap, ap₂, ◌∙◌}
 use mathlib.Core.Bool.{Bool, false}
 use mathlib.Core.List.{List, map}
 use native.Mathlib.Omega.{arith}
-use lib.ListN.{length, get_or, set, length-map, length-set}
+use lib.ListN.{length, get_or, set, length-map}
 use lib.Seq.{get_or-take, get_or-set_same}
-use Rattle.lists.specs.Lists.{keep, keep_by, Every, at, has, without, change, include, include_all, self}
+use Rattle.lists.specs.Lists.{keep, keep_by, at, has, without, change, include, include_all, self}
 use Rattle.lists.specs.Arrays.{insert_at, remove_at, place, rank}
 use Rattle.lists.proofs.Loops.{located, include-rank}
-use Rattle.lists.proofs.Distinct.{every_set, every_at, distinct-take, take_lacks, map-insert_at, map-remove_at, map-keep_by, keep_by_test, read_elsewhere, read_stored}
+use Rattle.lists.proofs.Distinct.{every_at, distinct-take, take_lacks, map-insert_at, map-remove_at, map-keep_by, keep_by_test, read_elsewhere, read_stored}
 use Rattle.lists.proofs.Maps.{map-set, map-change_if}
 use Rattle.rules.specs.Plain as plain
 use Rattle.rules.specs.Plain.{Plain, transaction_of, with_entries, with_departures, with_rebuilt}
@@ -24,10 +24,9 @@ use Rattle.rules.proofs.Named.{IsOfWord, good-words}
 use Rattle.rules.proofs.Reindex.{index_of-without, index_of-include, index_of-change}
 use Rattle.types.specs.Transactions.{number_of}
 use Rattle.entry.specs.declared.Entry.{Entry}
-use Rattle.entry.specs.Entry.{plain_entry, Fits}
+use Rattle.entry.specs.Entry.{plain_entry}
 use Rattle.store.specs.declared.roster.Roster.{Roster}
 use Rattle.store.specs.declared.issuers.Issuers.{Issuers}
-use Rattle.store.specs.Roster as roster
 use Rattle.store.specs.Roster.{keys_of, slots_of, free_slot, is, below, Inserted, Removed, Retained}
 use Rattle.store.specs.Issuers as issuers
 use Rattle.store.specs.Issuers.{is_not, pairs_in}
@@ -45,28 +44,21 @@ pub record Became (p : Plain) (r : Ledger) : Type 0 where
 
 -- roster, slots and index that hold these entries
 pub record Rows (local : ℕ) (rows : List plain.Entry) (r : Roster) (es : List Entry) (x : Issuers) : Type 0 where
-  pub roster : roster.Sound r
   pub keys : keys_of r ≡ map transaction_of rows
   pub entries : map (entry_in es) (slots_of r) ≡ rows
-  pub slots : length es ≡ 48
-  pub fits : Every Fits es
   pub issuers : issuers.Holds (index_of local rows) x
 
 pub became : (l : Ledger) (n : ℕ) (rows : List plain.Entry) (ds : List plain.Departure) (r : Roster) (es : List Entry) (x : Issuers) (d : Departures) →
-    Rows l.local.0 rows r es x → departures.Holds ds d → Good (with_rebuilt n (with_departures ds (with_entries rows (contents l)))) →
-    Became (with_rebuilt n (with_departures ds (with_entries rows (contents l)))) (with_parts l n r es x d)
+    Rows l.local.0 rows r es x → departures.Holds ds d → Good (with_rebuilt n (with_departures ds (with_entries rows (contents l)))) → (s : length es ≡ 48) →
+    Became (with_rebuilt n (with_departures ds (with_entries rows (contents l)))) (with_parts l n r es x d s)
 unfolding contents index
-became l n rows ds r es x d w f g =
+became l n rows ds r es x d w f g s =
     let e = w.entries in
     record {
       held =
           record {
-            roster = w.roster;
             keyed = w.keys ∙ ap (map transaction_of) (sym e);
-            slots = w.slots;
-            fits = w.fits;
-            issuers = record { sound = w.issuers.sound; pairs = w.issuers.pairs ∙ ap (index_of l.local.0) (sym e) };
-            departures = f.sound;
+            issuers = record { pairs = w.issuers.pairs ∙ ap (index_of l.local.0) (sym e) };
             good = rw (e, f.file) g;
           };
       holds = rw (e, f.file);
@@ -76,43 +68,43 @@ module _ (l : Ledger) (h : Held l) where
   -- the parts that stay
   same_rows : Rows l.local.0 (entries_of l) l.roster l.entries l.issuers
   unfolding contents index
-  same_rows = record { roster = h.roster; keys = h.keyed; entries = refl; slots = h.slots; fits = h.fits; issuers = h.issuers }
+  same_rows = record { keys = h.keyed; entries = refl; issuers = h.issuers }
 
   same_file : departures.Holds (on_file l.departures) l.departures
-  same_file = record { sound = h.departures; file = refl }
+  same_file = record { file = refl }
 
   -- other entries, and nothing else
-  pub with_rows : (rows : List plain.Entry) (r : Roster) (es : List Entry) (x : Issuers) → Rows l.local.0 rows r es x → Good (with_entries rows (contents l)) →
-      Became (with_entries rows (contents l)) (with_parts l l.rebuilt r es x l.departures)
+  pub with_rows : (rows : List plain.Entry) (r : Roster) (es : List Entry) (x : Issuers) → Rows l.local.0 rows r es x → Good (with_entries rows (contents l)) → (s : length es ≡ 48) →
+      Became (with_entries rows (contents l)) (with_parts l l.rebuilt r es x l.departures s)
   unfolding contents
-  with_rows rows r es x w g = became l l.rebuilt rows (on_file l.departures) r es x l.departures w same_file g
+  with_rows rows r es x w g s = became l l.rebuilt rows (on_file l.departures) r es x l.departures w same_file g s
 
   -- other departures, beside other entries or the same
-  pub filed : (ds : List plain.Departure) (d : Departures) → departures.Holds ds d → Good (with_departures ds (contents l)) →
-      Became (with_departures ds (contents l)) (with_parts l l.rebuilt l.roster l.entries l.issuers d)
+  pub filed : (ds : List plain.Departure) (d : Departures) → departures.Holds ds d → Good (with_departures ds (contents l)) → (s : length l.entries ≡ 48) →
+      Became (with_departures ds (contents l)) (with_parts l l.rebuilt l.roster l.entries l.issuers d s)
   unfolding contents
-  filed ds d f g = became l l.rebuilt (entries_of l) ds l.roster l.entries l.issuers d same_rows f g
+  filed ds d f g s = became l l.rebuilt (entries_of l) ds l.roster l.entries l.issuers d same_rows f g s
 
   -- another count
-  pub counted : (n : ℕ) → n ≤ max_count → Became (with_rebuilt n (contents l)) (with_count l n)
+  pub counted : (n : ℕ) → n ≤ max_count → (s : length l.entries ≡ 48) → Became (with_rebuilt n (contents l)) (with_count l n s)
   unfolding contents
-  counted n few = became l n (entries_of l) (on_file l.departures) l.roster l.entries l.issuers l.departures same_rows same_file (with-rebuilt (contents l) n h.good few)
+  counted n few s = became l n (entries_of l) (on_file l.departures) l.roster l.entries l.issuers l.departures same_rows same_file (with-rebuilt (contents l) n h.good few) s
 
   -- One entry changed where it lies; its terms stay.
   pub changed : (t k : ℕ) (x d : Entry) (f : plain.Entry → plain.Entry) → place (is t) 0 (keys_of l.roster) ≡ Some k →
-      Fits x → plain_entry x ≡ f (plain_entry (lying_at l k d)) → ((e : plain.Entry) → (f e).terms ≡ e.terms) →
-      Good (with_entries (change transaction_of t f (contents l).entries) (contents l)) →
-      Became (with_entries (change transaction_of t f (contents l).entries) (contents l)) (storing l (slot_at l k) x)
+      plain_entry x ≡ f (plain_entry (lying_at l k d)) → ((e : plain.Entry) → (f e).terms ≡ e.terms) →
+      Good (with_entries (change transaction_of t f (contents l).entries) (contents l)) → (s : length (set l.entries (slot_at l k) x) ≡ 48) →
+      Became (with_entries (change transaction_of t f (contents l).entries) (contents l)) (storing l (slot_at l k) x s)
   unfolding contents index
-  changed t k x d f e fx m terms g =
+  changed t k x d f e m terms g z =
       let w = located transaction_of t (entries_of l) k (sym (placed l h t) ∙ e) in
       let a = found_at l h t k e in
       let ss = slots_of l.roster in
       let slot : get_or ss k 0 ≡ slot_at l k = get_or-take l.roster.len l.roster.slots k 0 a.place in
       let plains = map plain_entry l.entries in
       let stored : map (λ n. get_or (set plains (get_or ss k 0) (plain_entry x)) n no_entry) ss ≡ set (entries_of l) k (plain_entry x) =
-      read_stored no_entry (plain_entry x) plains k ss (distinct-take l.roster.len l.roster.slots h.roster.distinct) (omega (arith, a.place, slots_length l h))
-      (rw slot (omega (arith, a.slot, h.slots, length-map l.entries plain_entry))) in
+      read_stored no_entry (plain_entry x) plains k ss (distinct-take l.roster.len l.roster.slots l.roster.distinct) (omega (arith, a.place, slots_length l h))
+      (rw slot (omega (arith, a.slot, l.slots, length-map l.entries plain_entry))) in
       let es : map (entry_in (set l.entries (slot_at l k) x)) ss ≡ change transaction_of t f (entries_of l) =
       ap (λ ps. map (λ n. get_or ps n no_entry) ss) (map-set plain_entry l.entries (slot_at l k) x)
       ∙ (rw slot at stored)
@@ -122,33 +114,30 @@ module _ (l : Ledger) (h : Held l) where
       let keys : map transaction_of (change transaction_of t f (entries_of l)) ≡ map transaction_of (entries_of l) = map-change_if transaction_of (at transaction_of t) f (λ y. ap (λ (z : plain.Terms). z.transaction) (terms y)) (entries_of l) in
       with_rows _ l.roster _ l.issuers
       (record {
-        roster = h.roster;
         keys = h.keyed ∙ sym keys;
         entries = es;
-        slots = length-set l.entries (slot_at l k) x ∙ h.slots;
-        fits = every_set Fits l.entries (slot_at l k) x fx h.fits;
-        issuers = record { sound = h.issuers.sound; pairs = h.issuers.pairs ∙ sym same };
+        issuers = record { pairs = h.issuers.pairs ∙ sym same };
       })
-      g
+      g z
 
   -- An entry taken in: its transaction is not owed, and ranks at k.
   pub taken_in : (k : ℕ) (x : Entry) (r : Roster) (ix : Issuers) → place (is (number_of x.tx)) 0 (keys_of l.roster) ≡ None →
-      k ≡ rank (below (number_of x.tx)) (keys_of l.roster) → l.roster.len < 48 → Fits x → IsOfWord (plain_entry x) → Inserted l.roster k (number_of x.tx) r →
+      k ≡ rank (below (number_of x.tx)) (keys_of l.roster) → l.roster.len < 48 → IsOfWord (plain_entry x) → Inserted l.roster k (number_of x.tx) r →
       issuers.Holds (include_all pair_key (pairs_of l.local.0 (plain_entry x)) (index (contents l))) ix →
-      Good (with_entries (include transaction_of (plain_entry x) (contents l).entries) (contents l)) →
-      Became (with_entries (include transaction_of (plain_entry x) (contents l).entries) (contents l)) (with_parts l l.rebuilt r (set l.entries (free_slot l.roster) x) ix l.departures)
+      Good (with_entries (include transaction_of (plain_entry x) (contents l).entries) (contents l)) → (s : length (set l.entries (free_slot l.roster) x) ≡ 48) →
+      Became (with_entries (include transaction_of (plain_entry x) (contents l).entries) (contents l)) (with_parts l l.rebuilt r (set l.entries (free_slot l.roster) x) ix l.departures s)
   unfolding contents index plain_entry
-  taken_in k x r ix e q room fx word o i g =
+  taken_in k x r ix e q room word o i g z =
       let t = number_of x.tx in
       let new = plain_entry x in
       let w = not_found l h t e in
       let ss = slots_of l.roster in
       let s = free_slot l.roster in
       let plains = map plain_entry l.entries in
-      let in-slot : s < 48 = every_at (λ n. n < 48) 0 l.roster.len l.roster.slots (omega (arith, h.roster.slot_length, room)) h.roster.within in
-      let lacks : has self s ss ≡ false = take_lacks l.roster.len l.roster.slots (omega (arith, h.roster.slot_length, room)) h.roster.distinct in
+      let in-slot : s < 48 = every_at (λ n. n < 48) 0 l.roster.len l.roster.slots (omega (arith, l.roster.lengths.1, room)) l.roster.within in
+      let lacks : has self s ss ≡ false = take_lacks l.roster.len l.roster.slots (omega (arith, l.roster.lengths.1, room)) l.roster.distinct in
       let here : entry_in (set l.entries s x) s ≡ new =
-      ap (λ ps. get_or ps s no_entry) (map-set plain_entry l.entries s x) ∙ get_or-set_same plains s new no_entry (omega (arith, in-slot, h.slots, length-map l.entries plain_entry)) in
+      ap (λ ps. get_or ps s no_entry) (map-set plain_entry l.entries s x) ∙ get_or-set_same plains s new no_entry (omega (arith, in-slot, l.slots, length-map l.entries plain_entry)) in
       let others : map (entry_in (set l.entries s x)) ss ≡ entries_of l =
       ap (λ ps. map (λ n. get_or ps n no_entry) ss) (map-set plain_entry l.entries s x) ∙ read_elsewhere no_entry new plains s ss lacks in
       let put_in : insert_at k new (entries_of l) ≡ include transaction_of new (entries_of l) =
@@ -157,36 +146,30 @@ module _ (l : Ledger) (h : Held l) where
       index_of-include l.local.0 new (entries_of l) word (good-words h.good) w.known in
       with_rows _ r _ ix
       (record {
-        roster = o.sound;
         keys = o.keys ∙ ap (insert_at k t) h.keyed ∙ sym (map-insert_at transaction_of k new (entries_of l)) ∙ ap (map transaction_of) put_in;
         entries = ap (map (entry_in (set l.entries s x))) o.slots ∙ map-insert_at (entry_in (set l.entries s x)) k s ss ∙ ap₂ (insert_at k) here others ∙ put_in;
-        slots = length-set l.entries s x ∙ h.slots;
-        fits = every_set Fits l.entries s x fx h.fits;
-        issuers = record { sound = i.sound; pairs = i.pairs ∙ sym pairs };
+        issuers = record { pairs = i.pairs ∙ sym pairs };
       })
-      g
+      g z
 
   -- An entry let go: the pairs of its transaction leave the index.
   pub let_go : (t k : ℕ) (r : Roster) (ix : Issuers) → place (is t) 0 (keys_of l.roster) ≡ Some k →
       Removed l.roster k r → issuers.Holds (keep (is_not t) (pairs_in l.issuers)) ix →
-      Good (with_entries (without transaction_of t (contents l).entries) (contents l)) →
-      Became (with_entries (without transaction_of t (contents l).entries) (contents l)) (with_parts l l.rebuilt r l.entries ix l.departures)
+      Good (with_entries (without transaction_of t (contents l).entries) (contents l)) → (s : length l.entries ≡ 48) →
+      Became (with_entries (without transaction_of t (contents l).entries) (contents l)) (with_parts l l.rebuilt r l.entries ix l.departures s)
   unfolding contents index
-  let_go t k r ix e c i g =
+  let_go t k r ix e c i g z =
       let w = located transaction_of t (entries_of l) k (sym (placed l h t) ∙ e) in
       let gone : remove_at k (entries_of l) ≡ without transaction_of t (entries_of l) = sym (w.gone (order l h)) in
       let pairs : keep (is_not t) (index_of l.local.0 (entries_of l)) ≡ index_of l.local.0 (without transaction_of t (entries_of l)) =
       index_of-without l.local.0 t (entries_of l) (good-words h.good) in
       with_rows _ r _ ix
       (record {
-        roster = c.sound;
         keys = c.keys ∙ ap (remove_at k) h.keyed ∙ sym (map-remove_at transaction_of k (entries_of l)) ∙ ap (map transaction_of) gone;
         entries = ap (map (entry_in l.entries)) c.slots ∙ map-remove_at (entry_in l.entries) k (slots_of l.roster) ∙ gone;
-        slots = h.slots;
-        fits = h.fits;
-        issuers = record { sound = i.sound; pairs = i.pairs ∙ ap (keep (is_not t)) h.issuers.pairs ∙ pairs };
+        issuers = record { pairs = i.pairs ∙ ap (keep (is_not t)) h.issuers.pairs ∙ pairs };
       })
-      g
+      g z
 
   -- The entries that a test keeps, by flags that say so, with their roster and index.
   pub kept-rows : (p : plain.Entry → Bool) (bs : List Bool) (r : Roster) (ix : Issuers) → bs ≡ map p (entries_of l) → Retained l.roster bs r →
@@ -194,10 +177,7 @@ module _ (l : Ledger) (h : Held l) where
   kept-rows p bs r ix q k i =
       let kept : keep_by bs (entries_of l) ≡ keep p (entries_of l) = rw q (keep_by_test p (entries_of l)) in
       record {
-        roster = k.sound;
         keys = k.keys ∙ ap (keep_by bs) h.keyed ∙ sym (map-keep_by transaction_of bs (entries_of l)) ∙ ap (map transaction_of) kept;
         entries = ap (map (entry_in l.entries)) k.slots ∙ map-keep_by (entry_in l.entries) bs (slots_of l.roster) ∙ kept;
-        slots = h.slots;
-        fits = h.fits;
         issuers = i;
       }

@@ -20,7 +20,7 @@ use Rattle.rules.specs.Plain as plain
 use Rattle.rules.specs.Plain.{transaction_of}
 use Rattle.rules.specs.Good.{GoodEntry}
 use Rattle.entry.specs.declared.Entry.{Entry}
-use Rattle.entry.specs.Entry.{plain_entry, Fits}
+use Rattle.entry.specs.Entry.{plain_entry}
 use Rattle.store.specs.Roster.{keys_of, slots_of, is, below, LiesIn}
 use Rattle.ledger.specs.declared.Ledger.{Ledger}
 use Rattle.ledger.specs.Contents.{no_entry, entry_in, entries_of, contents, Held, slot_at, lying_at}
@@ -33,14 +33,13 @@ pub record EntryAt (l : Ledger) (k : ℕ) : Type 0 where
   pub below : k < l.roster.len
   pub place : k < 48
   pub slot : slot_at l k < 48
-  pub fits : (d : Entry) → Fits (lying_at l k d)
   pub good : (d : Entry) → GoodEntry (contents l).local (plain_entry (lying_at l k d))
   pub read : (x : plain.Entry) (d : Entry) → get_or (entries_of l) k x ≡ plain_entry (lying_at l k d)
   pub next : (d : Entry) → drop k (entries_of l) ≡ plain_entry (lying_at l k d) ∷ drop (k + 1) (entries_of l)
 
 module _ (l : Ledger) (h : Held l) where
   pub slots_length : length (slots_of l.roster) ≡ l.roster.len
-  slots_length = length-take-le l.roster.len l.roster.slots (omega (arith, h.roster.room, h.roster.slot_length))
+  slots_length = length-take-le l.roster.len l.roster.slots (omega (arith, l.roster.room, l.roster.lengths.1))
 
   pub entries-length : length (entries_of l) ≡ l.roster.len
   entries-length = length-map (slots_of l.roster) (entry_in l.entries) ∙ slots_length
@@ -52,17 +51,16 @@ module _ (l : Ledger) (h : Held l) where
   pub entry_at : (k : ℕ) → k < l.roster.len → EntryAt l k
   unfolding contents
   entry_at k b =
-      let in-slot : slot_at l k < 48 = every_at (λ n. n < 48) 0 k l.roster.slots (omega (arith, h.roster.slot_length, h.roster.room)) h.roster.within in
+      let in-slot : slot_at l k < 48 = every_at (λ n. n < 48) 0 k l.roster.slots (omega (arith, l.roster.lengths.1, l.roster.room)) l.roster.within in
       let many = entries-length in
       let read : (x : plain.Entry) (d : Entry) → get_or (entries_of l) k x ≡ plain_entry (lying_at l k d) =
       λ x d. get_d_any (entries_of l) k x (entry_in l.entries 0) (omega arith)
       ∙ get_or-map (entry_in l.entries) (slots_of l.roster) k 0 ∙ ap (entry_in l.entries) (get_or-take l.roster.len l.roster.slots k 0 b)
-      ∙ entry_in_lem l.entries (slot_at l k) d (omega (arith, h.slots)) in
+      ∙ entry_in_lem l.entries (slot_at l k) d (omega (arith, l.slots)) in
       record {
         below = b;
-        place = omega (arith, h.roster.room);
+        place = omega (arith, l.roster.room);
         slot = in-slot;
-        fits = λ d. every_at Fits d (slot_at l k) l.entries (omega (arith, h.slots)) h.fits;
         good = λ d. rw (read no_entry d) at (every_at (GoodEntry l.local.0) no_entry k (entries_of l) (omega arith) h.good.entries.rows.each);
         read = read;
         next = λ d. rest_more no_entry (entries_of l) k (omega arith) ∙ ap (λ x. x ∷ drop (k + 1) (entries_of l)) (read no_entry d);
@@ -81,7 +79,6 @@ module _ (l : Ledger) (h : Held l) where
 pub record AtSlot (l : Ledger) (t k : ℕ) : Type 0 where
   pub place : k < l.roster.len
   pub slot : slot_at l k < 48
-  pub fits : (d : Entry) → Fits (lying_at l k d)
   pub good : (d : Entry) → GoodEntry (contents l).local (plain_entry (lying_at l k d))
   pub read : (x : plain.Entry) (d : Entry) → get_or (entries_of l) k x ≡ plain_entry (lying_at l k d)
   pub got : (d : Entry) → get transaction_of t (contents l).entries ≡ some (plain_entry (lying_at l k d))
@@ -96,7 +93,6 @@ found_at l h t k e =
     record {
       place = a.below;
       slot = a.slot;
-      fits = a.fits;
       good = a.good;
       read = a.read;
       got = λ d. w.got no_entry ∙ ap some (a.read no_entry d);
@@ -107,14 +103,13 @@ found_at l h t k e =
 -- The same of the slot in which a transaction's entry lies.
 pub record Owed (l : Ledger) (t s : ℕ) : Type 0 where
   pub slot : s < 48
-  pub fits : (d : Entry) → Fits (get_or l.entries s d)
   pub good : (d : Entry) → GoodEntry (contents l).local (plain_entry (get_or l.entries s d))
   pub got : (d : Entry) → get transaction_of t (contents l).entries ≡ some (plain_entry (get_or l.entries s d))
 
 pub owed_in : (l : Ledger) → Held l → (t s : ℕ) → LiesIn l.roster t s → Owed l t s
 owed_in l h t s w =
     let a = found_at l h t w.at w.found in
-    rw w.slot (record { slot = a.slot; fits = a.fits; good = a.good; got = a.got })
+    rw w.slot (record { slot = a.slot; good = a.good; got = a.got })
 
 pub not_found : (l : Ledger) → Held l → (t : ℕ) → place (is t) 0 (keys_of l.roster) ≡ None → Missing transaction_of t (contents l).entries
 unfolding contents

@@ -1,17 +1,14 @@
 -- What the ledger holds, as a plain ledger, and what every ledger that a call handed back has.
 use Rattle.std.specs.Prelude.{ℕ, ◌≡◌, List, [], map, length, get_or, set}
-use Rattle.lists.specs.Lists.{Every}
 use Rattle.rules.specs.Plain as plain
 use Rattle.rules.specs.Plain.{Plain, transaction_of}
 use Rattle.rules.specs.Entries as rules
 use Rattle.rules.specs.Index.{index}
 use Rattle.rules.specs.Good.{Good}
 use Rattle.entry.specs.declared.Entry.{Entry}
-use Rattle.entry.specs.Entry.{plain_entry, Fits}
-use Rattle.store.specs.Roster as roster
+use Rattle.entry.specs.Entry.{plain_entry}
 use Rattle.store.specs.Roster.{keys_of, slots_of}
 use Rattle.store.specs.Issuers as issuers
-use Rattle.store.specs.Departures as departures
 use Rattle.store.specs.Departures.{on_file}
 use Rattle.store.specs.declared.roster.Roster.{Roster}
 use Rattle.store.specs.declared.issuers.Issuers.{Issuers}
@@ -45,20 +42,16 @@ contents l =
       rebuilt = l.rebuilt;
     }
 
--- the parts are sound, the roster's keys are the entries' transactions, the index is the one that the entries give, and the contents
--- are good
+-- the roster's keys are the entries' transactions, the index is the one that the entries give, and the contents are good; that the parts
+-- are sound, their types say
 pub record Held (l : Ledger) : Type 0 where
-  pub roster : roster.Sound l.roster
   pub keyed : keys_of l.roster ≡ map transaction_of (entries_of l)
-  pub slots : length l.entries ≡ 48
-  pub fits : Every Fits l.entries
   pub issuers : issuers.Holds (index (contents l)) l.issuers
-  pub departures : departures.Sound l.departures
   pub good : Good (contents l)
 
--- the ledger with other parts: running count, roster, entries, index and departures
-abbrev pub with_parts : Ledger → ℕ → Roster → List Entry → Issuers → Departures → Ledger
-with_parts l n r es x d =
+-- the ledger with other parts: running count, roster, as many entries, index and departures
+abbrev pub with_parts : Ledger → ℕ → Roster → (es : List Entry) → Issuers → Departures → length es ≡ 48 → Ledger
+with_parts l n r es x d s =
     record {
       local = l.local;
       validity = l.validity;
@@ -69,14 +62,15 @@ with_parts l n r es x d =
       entries = es;
       issuers = x;
       departures = d;
+      slots = s;
     }
 
 -- the ledger with another running count, and with another entry in a slot
-abbrev pub with_count : Ledger → ℕ → Ledger
-with_count l n = with_parts l n l.roster l.entries l.issuers l.departures
+abbrev pub with_count : (l : Ledger) → ℕ → length l.entries ≡ 48 → Ledger
+with_count l n s = with_parts l n l.roster l.entries l.issuers l.departures s
 
-abbrev pub storing : Ledger → ℕ → Entry → Ledger
-storing l slot e = with_parts l l.rebuilt l.roster (set l.entries slot e) l.issuers l.departures
+abbrev pub storing : (l : Ledger) (slot : ℕ) (e : Entry) → length (set l.entries slot e) ≡ 48 → Ledger
+storing l slot e s = with_parts l l.rebuilt l.roster (set l.entries slot e) l.issuers l.departures s
 
 -- the slot at a place of the roster, and the entry that lies there; d is read where there is none
 abbrev pub slot_at : Ledger → ℕ → ℕ

@@ -2,6 +2,8 @@
 // transaction's entry lies, the issuer index which transactions issued a record, and the departures which shards have gone.
 #![tactic(auto)]
 
+ghost use Rattle.std.specs.Prelude.{◌≡◌, length};
+
 use entry::Entry;
 use store::departures::Departures;
 use store::issuers::Issuers;
@@ -20,6 +22,7 @@ pub struct Ledger {
     pub entries: [Entry; 48],
     pub issuers: Issuers,
     pub departures: Departures,
+    pub ghost slots: { length entries ≡ 48 },
 }
 
 // What a changing call says, three answers (0 where it has fewer) or why it is turned away, and the ledger after it.

@@ -1,8 +1,4 @@
 // The whole ledger, each of its words behind a space.
-ghost use Rattle.ledger.specs.Contents.{Held};
-ghost use Rattle.store.specs.Departures.{Sound};
-ghost use Rattle.store.specs.Issuers as index;
-
 use crate::entries;
 use ledger::Ledger;
 use script::Writer;
@@ -11,9 +7,7 @@ use store::departures::{Departure, Departures};
 use store::issuers::Issuers;
 use types::Transaction;
 
-pub fn put_ledger<W: Write>(writer: &mut Writer<W>, ledger: &Ledger)
-    requires { Held ledger.now }
-{
+pub fn put_ledger<W: Write>(writer: &mut Writer<W>, ledger: &Ledger) {
     writer.put_words(&[
         ledger.local.0,
         ledger.validity,
@@ -30,18 +24,14 @@ pub fn put_ledger<W: Write>(writer: &mut Writer<W>, ledger: &Ledger)
 }
 
 // By rising transaction.
-fn put_entries<W: Write>(writer: &mut Writer<W>, ledger: &Ledger)
-    requires { Held ledger.now }
-{
+fn put_entries<W: Write>(writer: &mut Writer<W>, ledger: &Ledger) {
     for i in 0..ledger.roster.len {
         let slot = ledger.roster.slots[i];
         entries::put_entry(writer, &ledger.entries[slot]);
     }
 }
 
-fn put_departures<W: Write>(writer: &mut Writer<W>, departures: &Departures)
-    requires { Sound departures.now }
-{
+fn put_departures<W: Write>(writer: &mut Writer<W>, departures: &Departures) {
     for departure in &departures.items[..departures.len] {
         put_departure(writer, *departure);
     }
@@ -53,9 +43,7 @@ fn put_departure<W: Write>(writer: &mut Writer<W>, d: Departure) {
 }
 
 // Record and transaction of each pair.
-fn put_index<W: Write>(writer: &mut Writer<W>, issuers: &Issuers)
-    requires { index.Sound issuers.now }
-{
+fn put_index<W: Write>(writer: &mut Writer<W>, issuers: &Issuers) {
     for i in 0..issuers.len {
         let tx = Transaction(issuers.transactions[i]);
         let mut words = [issuers.records[i], 0];

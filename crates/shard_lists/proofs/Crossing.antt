@@ -15,10 +15,10 @@ use Rattle.rules.specs.Numbers.{record_key, owns, shard_for_route}
 use Rattle.rules.specs.Plain.{Edge, is_remote, shard_of}
 use Rattle.rules.specs.Readings.{claimants_of}
 use Rattle.entry.specs.declared.Entry.{Entry}
-use Rattle.entry.specs.Entry.{plain_entry, edges_of, Fits}
+use Rattle.entry.specs.Entry.{plain_entry, edges_of}
 use Rattle.store.specs.declared.departures.Departures.{Departures}
-use Rattle.store.specs.Departures as departures
 use Rattle.store.specs.Departures.{on_file}
+use Rattle.entry.proofs.Shape.{fits_of}
 use Rattle.entry.proofs.Edges.{edge_at, issuing, edges-cons, edges-end}
 use Rattle.shard_lists.specs.declared.set.Set.{Set}
 use Rattle.shard_lists.specs.Sets.{front, Holds, is_over, shards_over, departed_over, counterparts_at}
@@ -29,28 +29,29 @@ use Rattle.shard_lists.proofs.Gather.{Sofar, ended}
 abbrev pub claimed : ℕ → ℕ → List Edge → List ℕ
 claimed local r es = concat_map (λ (g : Edge). g.to) (keep (issuing local r) es)
 
-module _ (e : Entry) (fits : Fits e) where
+module _ (e : Entry) where
   pub size_few : (i : ℕ) → i < e.edges_len → get_or e.sizes i 0 ≤ 4
   size_few i h =
       let n = e.edges_len in
+      let fits = fits_of e in
       rw (get_or-take n e.sizes i 0 h)
       at (every_at (λ m. m ≤ 4) 0 i (take n e.sizes) (omega (arith, length-take-le n e.sizes (omega (arith, fits.edges_len, fits.sizes)))) fits.few)
 
   module _ (local r : ℕ) where
     pub claim_in : (i from : ℕ) → i < e.edges_len → from ≡ total self (take i e.sizes) → issuing local r (edge_at e i) ≡ true →
         claimed local r (drop i (edges_of e)) ≡ part from (get_or e.sizes i 0) e.to ++ claimed local r (drop (i + 1) (edges_of e))
-    claim_in i from h q t = rw (q, edges-cons e fits i h, t)
+    claim_in i from h q t = rw (q, edges-cons e (fits_of e) i h, t)
 
     pub claim_out : (i : ℕ) → i < e.edges_len → issuing local r (edge_at e i) ≡ false →
         claimed local r (drop i (edges_of e)) ≡ claimed local r (drop (i + 1) (edges_of e))
-    claim_out i h t = rw (edges-cons e fits i h, t)
+    claim_out i h t = rw (edges-cons e (fits_of e) i h, t)
 
     pub claimed_all : {most : ℕ} {s : Set} (i : ℕ) → e.edges_len ≤ i →
         Sofar (set_of (claimed local r (edges_of e))) (claimed local r (drop i (edges_of e))) most s → Holds (claimants_of local r (plain_entry e)) s
     unfolding plain_entry
     claimed_all {most} {s} i h q =
         let two = keep_both (λ (g : Edge). eqb g.from local) (λ (g : Edge). eqb (record_key g.id) r) (edges_of e) in
-        rw two (ended (claimed local r (drop i (edges_of e))) (ap (claimed local r) (edges-end e fits i h)) q)
+        rw two (ended (claimed local r (drop i (edges_of e))) (ap (claimed local r) (edges-end e (fits_of e) i h)) q)
 
 -- the remote routes still to come
 
@@ -65,16 +66,15 @@ module _ (a : List ℕ) (local : ℕ) where
   far_out i h t = rw (rest_more 0 a i h, t)
 
 -- the departed shards, and the trie's put in among them, are the counterparts
-pub counterparts_once : (e : Entry) (local : ℕ) (x : Departures) (d : ℕ) (far : List ℕ) (s t : Set) → departures.Rising x →
+pub counterparts_once : (e : Entry) (local : ℕ) (x : Departures) (d : ℕ) (far : List ℕ) (s t : Set) →
     far ≡ keep (is_remote local) (take e.routes_len e.routes) → Holds (departed_over e.anchor.0 far (on_file x)) s →
     Holds (include_all self (map (shard_for_route d) far) (front s)) t → Holds (counterparts_at local (on_file x) d (plain_entry e)) t
 unfolding plain_entry
-counterparts_once e local x d far s t a q h k =
+counterparts_once e local x d far s t q h k =
     record {
-      sound = k.sound;
       holds =
           k.holds
           ∙ ap (include_all self (map (shard_for_route d) far)) h.holds
-          ∙ sym (gathered_once shard_of (shard_for_route d) (is_over e.anchor.0) (on_file x) a far)
+          ∙ sym (gathered_once shard_of (shard_for_route d) (is_over e.anchor.0) (on_file x) x.rising far)
           ∙ ap (λ l. set_of (concat_map (λ (r : ℕ). shard_for_route d r ∷ shards_over e.anchor.0 r (on_file x)) l)) q;
     }

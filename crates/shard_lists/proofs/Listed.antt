@@ -16,7 +16,8 @@ use Rattle.rules.specs.Plain as plain
 use Rattle.rules.specs.Plain.{Plain, entry_of}
 use Rattle.rules.specs.Readings.{listing, single, list_of, read, list_unstamped, list_counterparts, unstamped_departures, counterparts, counterparts_of, depth_refusal}
 use Rattle.entry.specs.declared.Entry.{Entry}
-use Rattle.entry.specs.Entry.{plain_entry, Fits}
+use Rattle.entry.specs.Entry.{plain_entry}
+use Rattle.entry.proofs.Shape.{fits_of}
 use Rattle.store.specs.Departures.{on_file}
 use Rattle.store.specs.Roster.{keys_of, is}
 use Rattle.ledger.specs.declared.Ledger.{Ledger}
@@ -29,8 +30,8 @@ use Rattle.readings.proofs.Written.{reads_list, turned_away}
 use Rattle.shard_lists.specs.declared.set.Set.{Set}
 use Rattle.shard_lists.specs.Sets.{front, Holds, unstamped_on, counterparts_at}
 
-pub routes-room : {e : Entry} → Fits e → e.routes_len ≤ length e.routes
-routes-room {e} f = omega (arith, f.routes_len, f.routes)
+pub routes-room : (e : Entry) → e.routes_len ≤ length e.routes
+routes-room e = let f = fits_of e in omega (arith, f.routes_len, f.routes)
 
 -- one word an item: the items written out are the list
 alone : (items lent after : List ℕ) (r : Result ℕ Refusal) (p : Plain) (m : ℕ) → m ≡ 0 → Lists items (length items) lent after r →
@@ -56,14 +57,14 @@ module _ (l : Ledger) (h : Held l) (t : ℕ) (lent : List ℕ) (f : plain.Entry 
   of_owed s d items after n r e b q w =
       rw (e.got d, sym q) (alone (take n items) lent after r (contents l) m z (first items lent after n r b w))
 
-pub set_room : {l : List ℕ} {s : Set} → Holds l s → s.len ≤ length s.items
-set_room h = omega (arith, h.sound.sized.room, h.sound.sized.size)
+pub set_room : (s : Set) → s.len ≤ length s.items
+set_room s = omega (arith, s.room, s.size)
 
 pub of_departures : (l : Ledger) (s : Set) (lent after : List ℕ) (r : Result ℕ Refusal) → Holds (unstamped_on (on_file l.departures)) s → Lists (front s) s.len lent after r →
     Reads (read (list_unstamped (length lent)) (contents l)) lent after r
 unfolding unstamped_departures contents
 of_departures l s lent after r h w =
-    rw (sym h.holds) (alone (front s) lent after r (contents l) 0 refl (first s.items lent after s.len r (set_room h) w))
+    rw (sym h.holds) (alone (front s) lent after r (contents l) 0 refl (first s.items lent after s.len r (set_room s) w))
 
 -- counterparts: a depth over 32 is refused before anything is looked up
 module _ (l : Ledger) (h : Held l) (t d : ℕ) (lent : List ℕ) where
@@ -82,4 +83,4 @@ module _ (l : Ledger) (h : Held l) (t d : ℕ) (lent : List ℕ) where
       Lists (front s) s.len lent after r → Reads (read (list_counterparts t d (length lent)) (contents l)) lent after r
   unfolding counterparts contents
   of_counterparts b k x s after r e q w =
-      of_owed l h t lent (counterparts_of (contents l) d) (depth_refusal d) (shallow b) k x s.items after s.len r e (set_room q) q.holds w
+      of_owed l h t lent (counterparts_of (contents l) d) (depth_refusal d) (shallow b) k x s.items after s.len r e (set_room s) q.holds w

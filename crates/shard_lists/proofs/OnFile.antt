@@ -7,7 +7,7 @@ use mathlib.Core.List.{List, [], ◌∷◌, map}
 use native.Mathlib.Omega.{arith}
 use lib.ListN.{take, drop, get_or, drop_of_length-le}
 use lib.Seq.{get_or-take}
-use Rattle.lists.specs.Lists.{keep, Every, self}
+use Rattle.lists.specs.Lists.{keep, Every, Ascending, self}
 use Rattle.lists.proofs.Loops.{rest-cons}
 use Rattle.lists.proofs.Order.{ascending-keep, ascending-map}
 use Rattle.lists.proofs.Parts.{every_drop}
@@ -16,17 +16,15 @@ use Rattle.rules.specs.Plain.{shard_of}
 use Rattle.rules.specs.Good.{GoodDeparture}
 use Rattle.store.specs.declared.departures.Departure.{Departure}
 use Rattle.store.specs.declared.departures.Departures.{Departures}
-use Rattle.store.specs.Departures as departures
 use Rattle.std.specs.Prelude.{Option, Some, None, is_some}
 use Rattle.types.specs.declared.Time.{Time}
 use Rattle.rules.specs.Readings.{is_unstamped}
 use Rattle.store.specs.Departures.{plain_departure, stamp_of, on_file}
 use Rattle.store.proofs.Filed.{all, all-front, all-length, all-at, file-length}
-use Rattle.shard_lists.specs.declared.set.Set.{Set}
-use Rattle.shard_lists.specs.Sets.{Holds, lacks_stamp, unstamped_on}
+use Rattle.shard_lists.specs.Sets.{lacks_stamp, unstamped_on}
 use Rattle.shard_lists.proofs.Gather.{Written, written_out}
 
-module _ (x : Departures) (h : departures.Sound x) where
+module _ (x : Departures) where
   -- the one at a place
   abbrev at : Departure → ℕ → Departure
   at d i = get_or (take x.len x.items) i d
@@ -34,11 +32,11 @@ module _ (x : Departures) (h : departures.Sound x) where
   file-cons : (d : Departure) (i : ℕ) → i < x.len → drop i (on_file x) ≡ plain_departure (at d i) ∷ drop (i + 1) (on_file x)
   file-cons d i k =
       ap (drop i) (sym (all-front x))
-      ∙ rest-cons (plain_departure d) (all x) i x.len k (omega (arith, all-length x h, h.room))
+      ∙ rest-cons (plain_departure d) (all x) i x.len k (omega (arith, all-length x, x.room))
       ∙ rw (all-at x i d, all-front x) (ap (λ y. plain_departure y ∷ drop (i + 1) (on_file x)) (sym (get_or-take x.len x.items i d k)))
 
   file-end : (i : ℕ) → x.len ≤ i → drop i (on_file x) ≡ []
-  file-end i k = drop_of_length-le (on_file x) {i = i} (omega (arith, file-length x h))
+  file-end i k = drop_of_length-le (on_file x) {i = i} (omega (arith, file-length x))
 
   pub file-good : (d : Departure) (i : ℕ) → i < x.len → Every GoodDeparture (on_file x) → GoodDeparture (plain_departure (at d i))
   file-good d i k v = (rw (file-cons d i k) at (every_drop GoodDeparture i (on_file x) v)).0
@@ -57,12 +55,14 @@ module _ (x : Departures) (h : departures.Sound x) where
         shards_of (drop i (on_file x)) ≡ shards_of (drop (i + 1) (on_file x))
     pass d i k t = rw (file-cons d i k, t)
 
-    pub all_picked : departures.Rising x → {s : Set} (i : ℕ) → x.len ≤ i → s.len ≤ 40 →
-        Written 40 (shards_of (on_file x)) (shards_of (drop i (on_file x))) s → Holds (shards_of (on_file x)) s
-    all_picked a {s} i k b w =
-        let e = written_out (shards_of (drop i (on_file x))) (ap shards_of (file-end i k)) w in
-        let rises = ascending-map shard_of self shard_of (λ d. refl) (keep p (on_file x)) (ascending-keep shard_of p (on_file x) a) in
-        record { sound = record { sized = record { room = b; size = w.size }; rising = rw e rises }; holds = e }
+    pub all_picked : {items : List ℕ} {n : ℕ} (i : ℕ) → x.len ≤ i → Written 40 (shards_of (on_file x)) (shards_of (drop i (on_file x))) items n →
+        take n items ≡ shards_of (on_file x)
+    all_picked i k w = written_out (shards_of (drop i (on_file x))) (ap shards_of (file-end i k)) w
+
+    pub picked_rise : {items : List ℕ} {n : ℕ} (i : ℕ) → x.len ≤ i → Written 40 (shards_of (on_file x)) (shards_of (drop i (on_file x))) items n →
+        Ascending self (take n items)
+    picked_rise i k w =
+        rw (all_picked i k w) (ascending-map shard_of self shard_of (λ d. refl) (keep p (on_file x)) (ascending-keep shard_of p (on_file x) x.rising))
 
   -- those without a stamp
 

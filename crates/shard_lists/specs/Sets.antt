@@ -1,6 +1,6 @@
 -- What a set of numbers holds, and what shards are gathered.
 use Rattle.std.specs.Prelude.{ℕ, ◌≤◌, ◌≡◌, Bool, ◌&&◌, List, ◌∷◌, map, ltb, length, take}
-use Rattle.lists.specs.Lists.{keep, any, concat_map, Every, Ascending, self, set_of}
+use Rattle.lists.specs.Lists.{keep, any, concat_map, Every, set_of}
 use Rattle.rules.specs.Numbers.{owns, shard_for_route}
 use Rattle.rules.specs.Plain as plain
 use Rattle.rules.specs.Plain.{shard_of, remote}
@@ -8,26 +8,13 @@ use Rattle.rules.specs.Readings.{is_unstamped}
 use Rattle.rules.specs.Good.{GoodDeparture}
 use Rattle.shard_lists.specs.declared.set.Set.{Set}
 use Rattle.store.specs.declared.departures.Departures.{Departures}
-use Rattle.store.specs.Departures as departures
 use Rattle.store.specs.Departures.{on_file}
-
-abbrev pub made : List ℕ → ℕ → Set
-made items n = record { items = items; len = n }
 
 abbrev pub front : Set → List ℕ
 front s = take s.len s.items
 
-pub record Sized (s : Set) : Type 0 where
-  pub room : s.len ≤ 40
-  pub size : length s.items ≡ 40
-
-pub record Sound (s : Set) : Type 0 where
-  pub sized : Sized s
-  pub rising : Ascending self (front s)
-
 -- a set that holds just these
 pub record Holds (l : List ℕ) (s : Set) : Type 0 where
-  pub sound : Sound s
   pub holds : front s ≡ l
 
 -- the first n of an array of eight are just these
@@ -37,10 +24,8 @@ pub record Eight (l a : List ℕ) (n : ℕ) : Type 0 where
   pub holds : take n a ≡ l
 
 -- departures on file as a ledger in use has them
-pub record Filed (x : Departures) : Type 0 where
-  pub sound : departures.Sound x
-  pub rising : departures.Rising x
-  pub good : Every GoodDeparture (on_file x)
+abbrev pub Filed : Departures → Type 0
+Filed x = Every GoodDeparture (on_file x)
 
 -- what is gathered: departed shards, over a route or over one of some routes of an entry with an anchor; those without a stamp; an entry's
 -- counterparts

@@ -10,12 +10,12 @@ ghost use Rattle.rules.specs.Numbers.{is_shard, owns, shard_for_route};
 ghost use Rattle.rules.specs.Plain.{is_remote};
 ghost use Rattle.rules.specs.Readings as rules;
 ghost use Rattle.rules.specs.Readings.{read, claimants_of};
-ghost use Rattle.entry.specs.Entry.{plain_entry, Fits};
+ghost use Rattle.entry.specs.Entry.{plain_entry};
 ghost use Rattle.store.specs.Departures as departures;
 ghost use Rattle.store.specs.Departures.{on_file, plain_departure};
 ghost use Rattle.ledger.specs.Contents.{contents, Held};
 ghost use Rattle.readings.specs.Reads.{Reads};
-ghost use Rattle.shard_lists.specs.Sets.{front, Sound, Holds, Eight, Filed, is_over_some, departed_over, unstamped_on, counterparts_at};
+ghost use Rattle.shard_lists.specs.Sets.{front, Holds, Eight, Filed, is_over_some, departed_over, unstamped_on, counterparts_at};
 ghost use Rattle.types.specs.Transactions.{number_of};
 
 use entry::{Entry, is_issue};
@@ -29,7 +29,6 @@ use types::{RecordKey, Shard, Time, Transaction, shard_for_route};
 
 // The shards whose departures have no stamp. They rise as the departures do, so that each is put behind the last.
 fn unstamped(filed: Departures) -> Set
-    requires { departures.Sound filed × departures.Rising filed }
     ensures { Holds (unstamped_on (on_file filed)) result }
 {
     let mut shards = Set::new();
@@ -64,7 +63,6 @@ pub fn reach(ledger: Ledger, tx: Transaction, lent: &mut [u64]) -> Result<u64, R
 
 // The destinations of the entry's edges from local with this key.
 fn destinations(e: Entry, local: Shard, r: RecordKey) -> Set
-    requires { Fits e }
     ensures { Holds (claimants_of local.0 r.0 (plain_entry e)) result }
 {
     let mut shards = Set::new();
@@ -144,7 +142,7 @@ fn departed(on_file: Departures, anchor: Time, far: &[u64]) -> Set
 
 // The trie's shards of the routes put into a set.
 fn put_trie(shards: &mut Set, far: &[u64], d: u32)
-    requires { Sound shards.old × (shards.old.len ≤ 32) × (length far.now ≤ 8) × (leb d 32 ≡ true) }
+    requires { (shards.old.len ≤ 32) × (length far.now ≤ 8) × (leb d 32 ≡ true) }
     ensures { Holds (include_all self (map (shard_for_route d) far.now) (front shards.old)) shards.new }
 {
     for route in far {
@@ -155,7 +153,7 @@ fn put_trie(shards: &mut Set, far: &[u64], d: u32)
 // For the remote routes the trie's shards, and those whose departure is over one. Departures are gone through once: each is held against
 // the routes, not each route against them.
 fn beyond(e: Entry, on_file: Departures, local: Shard, d: u32) -> Set
-    requires { Fits e × Filed on_file × (is_shard local.0 ≡ true) × (leb d 32 ≡ true) }
+    requires { Filed on_file × (is_shard local.0 ≡ true) × (leb d 32 ≡ true) }
     ensures { Holds (counterparts_at local.0 (departures.on_file on_file) d (plain_entry e)) result }
 {
     let mut far = [0; 8];

@@ -64,11 +64,11 @@ module _ (l : Ledger) (h : Held l) (stay : List Bool) (codes : List ℕ) (count 
       codes_on : take (i + 1) (set codes i code) ≡ map closing_decision (take (i + 1) (entries_of l))
       unfolding plain_entry
       codes_on =
-          fill_next closing_decision codes (entries_of l) i (plain_entry here) code (omega (arith, v.codes_length, q, h.roster.room)) (omega (arith, entries-length l h)) cons k v.decisions
+          fill_next closing_decision codes (entries_of l) i (plain_entry here) code (omega (arith, v.codes_length, q, l.roster.room)) (omega (arith, entries-length l h)) cons k v.decisions
 
       stay_on : (b : Bool) → b ≡ not (is_closed l.local.0 (plain_entry here)) → take (i + 1) (set stay i b) ≡ map (stays_open l.local.0) (take (i + 1) (entries_of l))
       stay_on b e =
-          fill_next (stays_open l.local.0) stay (entries_of l) i (plain_entry here) b (omega (arith, v.stay_length, q, h.roster.room)) (omega (arith, entries-length l h)) cons e v.flags
+          fill_next (stays_open l.local.0) stay (entries_of l) i (plain_entry here) b (omega (arith, v.stay_length, q, l.roster.room)) (omega (arith, entries-length l h)) cons e v.flags
 
       pub judge_next : (b : Bool) → b ≡ is_closed l.local.0 (plain_entry here) → Judging l (set stay i (not b)) (set codes i code) (count + from_bool b) (i + 1)
       judge_next b e =
@@ -157,7 +157,7 @@ module _ (l : Ledger) (h : Held l) (lent : List ℕ) (c : Closing) (j : Judges l
   answer_of = j.count
 
   pub count-few : c.count ≤ 48
-  count-few = omega (arith, j.count, length-keep (is_closed l.local.0) (entries_of l), entries-length l h, h.roster.room)
+  count-few = omega (arith, j.count, length-keep (is_closed l.local.0) (entries_of l), entries-length l h, l.roster.room)
 
   pub listed-length : length (listed l.roster c) ≡ 2 * c.count
   listed-length = ap length words_of ∙ words-length (calls.closed (contents l)) ∙ ap (λ n. 2 * n) (sym answer_of)
@@ -171,23 +171,24 @@ module _ (l : Ledger) (h : Held l) (lent : List ℕ) (c : Closing) (j : Judges l
   kept_open : (r : Roster) → Retained l.roster (take l.roster.len c.stay) r → (x : Issuers) →
       issuers.Holds (unnamed_by (take l.roster.len c.stay) (keys_of l.roster) (pairs_in l.issuers)) x →
       Good (with_entries (keep (λ e. not (is_closed (contents l).local e)) (contents l).entries) (contents l)) →
-      Became (with_entries (keep (λ e. not (is_closed (contents l).local e)) (contents l).entries) (contents l)) (with_parts l l.rebuilt r l.entries x l.departures)
+      (z : length l.entries ≡ 48) →
+      Became (with_entries (keep (λ e. not (is_closed (contents l).local e)) (contents l).entries) (contents l)) (with_parts l l.rebuilt r l.entries x l.departures z)
   unfolding contents
-  kept_open r k x i g =
+  kept_open r k x i g z =
       with_rows l h _ r l.entries x
       (kept-rows l h (stays_open l.local.0) (take l.roster.len c.stay) r x j.stay k
-      (unnamed_index (stays_open l.local.0) l h (take l.roster.len c.stay) x j.stay i)) g
+      (unnamed_index (stays_open l.local.0) l h (take l.roster.len c.stay) x j.stay i)) g z
 
   pub closes-done : 2 * c.count ≤ length lent → (r : Roster) → Retained l.roster (take l.roster.len c.stay) r → (x : Issuers) →
       issuers.Holds (unnamed_by (take l.roster.len c.stay) (keys_of l.roster) (pairs_in l.issuers)) x → (after : List ℕ) → after ≡ sets lent 0 (listed l.roster c) →
-      Meets (after_closes (length lent) (contents l)) lent after (says c.count (with_parts l l.rebuilt r l.entries x l.departures))
+      (z : length l.entries ≡ 48) → Meets (after_closes (length lent) (contents l)) lent after (says c.count (with_parts l l.rebuilt r l.entries x l.departures z))
   unfolding after_closes
-  closes-done q r k x i after w =
+  closes-done q r k x i after w z =
       let p = contents l in
       let o : Outcome = record { refused = 0; answers = length (calls.closed p) ∷ []; ledger = with_entries (keep (λ e. not (is_closed p.local e)) p.entries) p; words = concat_map close_words (calls.closed p) } in
       let none : closes_refusal (length lent) p ≡ 0 = rw (le-ltb (length lent) (length (concat_map close_words (calls.closed p))) (omega (arith, q, ap length words_of, listed-length))) in
       let g = good-after (closes_refusal (length lent) p) p o none (step-good (calls.closes (length lent)) tt p h.good) in
-      let b = kept_open r k x i g in
+      let b = kept_open r k x i g z in
       passes (closes_refusal (length lent) p) p o lent after _ none
       (record {
         refused = refl;

@@ -86,10 +86,10 @@ enough_room now reports room q = ltb-false room (3 * reports) (go (is_time now) 
 
 module _ (l : Ledger) (h : Held l) (now : ℕ) where
   file-few : length (on_file l.departures) ≤ 32
-  file-few = omega (arith, file-length l.departures h.departures, h.departures.room)
+  file-few = omega (arith, file-length l.departures, l.departures.room)
 
   entries-few : length (entries_of l) ≤ 48
-  entries-few = omega (arith, entries-length l h, h.roster.room)
+  entries-few = omega (arith, entries-length l h, l.roster.room)
 
   pub pass_none : JudgingIn l now begun 0
   pass_none = judging_none (stands (contents l) now) (reporting l now) (row_of l now) (holding l now) (entries_of l) (on_file l.departures) file-few
@@ -171,7 +171,7 @@ module _ (l : Ledger) (h : Held l) (now : ℕ) where
   passed r i k q =
       let n = entries-length l h in
       let z : length (entries_of l) ≤ i = omega (arith, n) in
-      let m = file-length l.departures h.departures in
+      let m = file-length l.departures in
       let reported = keep (reporting l now) (fallen now (contents l)) in
       record {
         stay = all_stay (stands (contents l) now) (reporting l now) (row_of l now) (holding l now) (entries_of l) (on_file l.departures) file-few r i k z l.roster.len n;
@@ -219,23 +219,22 @@ module _ (l : Ledger) (h : Held l) (now : ℕ) where
         unfolding contents
         left-file =
             record {
-              sound = d.sound;
               file = d.file ∙ rw j.needed (keep_by_test (remains l.local.0 (survivors now (contents l))) (on_file l.departures));
             }
 
-        remained : Became (pruned now (contents l)) (with_parts l l.rebuilt r l.entries x f)
+        remained : (z : length l.entries ≡ 48) → Became (pruned now (contents l)) (with_parts l l.rebuilt r l.entries x f z)
         unfolding contents pruned survivors
-        remained =
+        remained z =
             became l l.rebuilt (keep (stands (contents l) now) (entries_of l)) left r l.entries x f
             (kept-rows l h (stands (contents l) now) (take l.roster.len c.stay) r x j.stay k
             (unnamed_index (stands (contents l) now) l h (take l.roster.len c.stay) x j.stay i))
-            left-file (pruned-kept now (contents l) h.good)
+            left-file (pruned-kept now (contents l) h.good) z
 
-        pub prune-done : 0 ≡ refusal_by now c.reports (length lent) → (after : List ℕ) → after ≡ sets lent 0 (take (3 * c.reports) c.words) →
+        pub prune-done : 0 ≡ refusal_by now c.reports (length lent) → (after : List ℕ) → after ≡ sets lent 0 (take (3 * c.reports) c.words) → (z : length l.entries ≡ 48) →
             Meets (after_prune now (length lent) (contents l)) lent after
-            (saying (Ok (c.reports ∷ c.fallen ∷ 0 ∷ [])) (with_parts l l.rebuilt r l.entries x f))
+            (saying (Ok (c.reports ∷ c.fallen ∷ 0 ∷ [])) (with_parts l l.rebuilt r l.entries x f z))
         unfolding after_prune
-        prune-done q after w =
+        prune-done q after w z =
             let p = contents l in
             let ws = concat_map report_words (reports now p) in
             let o : Outcome = record { refused = 0; answers = length (reports now p) ∷ length (fallen now p) ∷ []; ledger = pruned now p; words = ws } in
@@ -245,7 +244,7 @@ module _ (l : Ledger) (h : Held l) (now : ℕ) where
             (record {
               refused = refl;
               answers = ap₂ (λ m n. m ∷ n ∷ 0 ∷ []) j.count j.fallen;
-              ledger = remained.holds;
+              ledger = (remained z).holds;
               wrote = w ∙ ap (sets lent 0) j.words ∙ front;
-              held = remained.held;
+              held = (remained z).held;
             })

@@ -51,7 +51,6 @@ module _ (p : plain.Entry → Bool) where
   unnamed_index l h bs x q i =
       let es = entries_of l in
       record {
-        sound = i.sound;
         pairs = i.pairs
             ∙ rw (q, h.keyed, h.issuers.pairs)
             (unnamed_keep (flags es) (names es) (index_of l.local.0 es)

@@ -55,7 +55,7 @@ module _ (local : ℕ) (ws r : List ℕ) (q : Part) (x : declared.Entry) (h : e.
   admitted-whole u d =
       let v : q ≡ whole = u ∙ rw (eq-eqb (decomposed ws) 0 d) in
       let same : bare_entry q 3 ws r 0 0 ≡ admitted local ws = rw (v, eq-eqb (decomposed ws) 0 d, t, whole-terms ws) in
-      record { fits = h.fits; plain = h.plain ∙ same }
+      record { plain = h.plain ∙ same }
 
   -- y is x with the admission's core and edges
   pub admitted_parted : (y : declared.Entry) → e.Means (with_terms (admission_terms ws) (e.plain_entry x)) y → q ≡ part_in local ws → (decomposed ws ≡ 0 → ⊥) →
@@ -65,7 +65,7 @@ module _ (local : ℕ) (ws r : List ℕ) (q : Part) (x : declared.Entry) (h : e.
       let n : eqb (decomposed ws) 0 ≡ false = ne_eqb (decomposed ws) 0 d in
       let v : q ≡ cond (has self local (core_in ws)) core leg = u ∙ rw n in
       let same : entry q (admission_terms ws) 0 0 ≡ admitted local ws = rw (v, n) in
-      record { fits = m.fits; plain = m.plain ∙ ap (with_terms (admission_terms ws)) h.plain ∙ same }
+      record { plain = m.plain ∙ ap (with_terms (admission_terms ws)) h.plain ∙ same }
 
 -- the edges, from the fronts of arrays
 pub edges_built : (ws ids from kind size to : List ℕ) (n : ℕ) → n ≡ edge_count ws →

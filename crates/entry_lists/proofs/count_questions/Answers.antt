@@ -8,7 +8,7 @@ use Rattle.entry_lists.proofs.ByEntry.{at_turn, asks_next, counted}
 use Rattle.entry_lists.proofs.count_questions.Goals as goal
 
 pub asks-count-requires : goal.asks-count-requires
-asks-count-requires c = let t = at_turn c.args.ledger.now c.requires c.loop-slot.slot-index (omega arith) in (t.fits _, t.good _)
+asks-count-requires c = let t = at_turn c.args.ledger.now c.requires c.loop-slot.slot-index (omega arith) in t.good _
 
 pub loop-slot-preserved : goal.loop-slot-preserved
 loop-slot-preserved c =
@@ -22,4 +22,4 @@ returns c =
     let l = c.loop-slot in
     let a = c.args.ledger.now in
     let e = ap (λ m. length (concat_map (questions_of a.local.0) m)) (none_left a c.requires l.slot-index (omega arith)) in
-    (omega (arith, l.invariant.1, e), omega (arith, c.requires.roster.room))
+    (omega (arith, l.invariant.1, e), omega (arith, c.args.ledger.now.roster.room))

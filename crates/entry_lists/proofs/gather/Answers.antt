@@ -15,7 +15,7 @@ use Rattle.entry_lists.proofs.gather.Goals.{in-Some, in_default}
 pub row_of-requires : goal.row_of-requires
 row_of-requires g c =
     let t = at_turn c.args.ledger.now c.requires.held c.loop-slot.slot-index (omega arith) in
-    c.requires.callable _ (t.fits _) (t.good _)
+    c.requires.callable _ (t.good _)
 
 pub loop-slot-preserved : goal.loop-slot-preserved
 unfolding plain_entry
@@ -28,14 +28,14 @@ loop-slot-preserved g c =
       | in-Some w ↦ rw (w.count-is, w.words-is) (
         omega (arith, l.invariant.0),
         λ p row each q. (
-            let r = rw w.in-Some.is at (q _ _ (t.fits _) (t.good _) (says_at g.F.Fn c.row_of.ensures refl)) in
+            let r = rw w.in-Some.is at (q _ _ (t.good _) (says_at g.F.Fn c.row_of.ensures refl)) in
             put_one (item_words row) size each _ _ _ _ _ (next-kept p _ _ _ (t.next _) r.0) (omega arith) (rw (w.as_slice.ensures ∙ r.1) at w.put_item.ensures) (l.invariant.1 p row each q)
             ),
       )
       | in_default w ↦ rw (w.count-is, w.words-is) (
         omega (arith, l.invariant.0),
         λ p row each q. (
-            let r = rw w.in_default.is at (q _ _ (t.fits _) (t.good _) (says_at g.F.Fn c.row_of.ensures refl)) in
+            let r = rw w.in_default.is at (q _ _ (t.good _) (says_at g.F.Fn c.row_of.ensures refl)) in
             passed_by (item_words row) size each _ _ _ (next-left p _ _ _ (t.next _) r) (omega arith) (l.invariant.1 p row each q)
             ),
       )
@@ -47,6 +47,6 @@ returns-clause-items g c = λ p row each q. (
     let l = c.loop-slot in
     let a = c.args.ledger.now in
     let e = ap (keep p) (none_left a c.requires.held l.slot-index (omega arith)) in
-    let few : l.count ≤ 48 = omega (arith, l.invariant.0, c.requires.held.roster.room) in
+    let few : l.count ≤ 48 = omega (arith, l.invariant.0, a.roster.room) in
     ended (item_words row) c.args.size each _ e (within c.args.size l.count _ few c.requires.room) (l.invariant.1 p row each q)
     )

@@ -16,6 +16,6 @@ returns c =
     let l = contents c.args.ledger in
     let p = holds_id a.local.0 c.args.id in
     let run = c.gather-n.ensures.items p (λ (e : plain.Entry). e.terms.end ∷ []) (λ x. refl)
-    (λ e r f g s. picked (p (plain_entry e)) (e.end.0 ∷ []) r (search (rules, tests))) in
+    (λ e r g s. picked (p (plain_entry e)) (e.end.0 ∷ []) r (search (rules, tests))) in
     let same = rw (sym (issuers_hold l c.requires.good c.args.id)) at run in
     reads-run issuer_words 2 (λ x. refl) (issuers_of c.args.id l) _ _ _ l _ c.args.lent.now _ _ refl same c.list.ensures

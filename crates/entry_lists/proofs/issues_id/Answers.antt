@@ -5,6 +5,7 @@ use Rattle.std.proofs.lemmas.Iterator.Search.{any_from_yields_List}
 use Rattle.lists.proofs.Picked.{any-kept}
 use Rattle.rules.specs.Plain.{Edge}
 use Rattle.entry.specs.Entry.{plain_entry, edges_of}
+use Rattle.entry.proofs.Shape.{fits_of}
 use Rattle.entry.proofs.Edges.{starting, any-ends}
 use Rattle.entry_lists.proofs.issues_id.Goals as goal
 
@@ -16,5 +17,5 @@ returns c =
     let n = e.edges_len in
     any_from_yields_List (λ (x : ℕ × ℕ). eqb x.0 a.local.0 && eqb x.1 a.id) c.any.new.self _ _ c.any.ensures.ran
     (YieldsList-from_zip (YieldsList-from_slice (take n e.froms) cc) (YieldsList-from_slice (take n e.ids) cc)) (λ x b q k. search (rules, tests))
-    ∙ sym (any-ends e c.requires (λ x. eqb x.0 a.local.0 && eqb x.1 a.id))
+    ∙ sym (any-ends e (fits_of e) (λ x. eqb x.0 a.local.0 && eqb x.1 a.id))
     ∙ sym (any-kept (λ (g : Edge). eqb g.id a.id) (starting a.local.0) (edges_of e))

@@ -14,7 +14,7 @@ pub gather-n-requires-clause-callable : goal.gather-n-requires-clause-callable
 unfolding plain_entry
 gather-n-requires-clause-callable c =
     let v = validity-small c.args.ledger c.requires in
-    λ e f g. (let b = ltb-true _ _ g.terms.at in search (rules, v, b, f))
+    λ e g. (let b = ltb-true _ _ g.terms.at in search (rules, v, b))
 
 pub returns : goal.returns
 unfolding contents past_deadline plain_entry
@@ -23,5 +23,5 @@ returns c =
     let l = contents c.args.ledger in
     let p = is_past a.validity c.args.time.0 in
     let run = c.gather-n.ensures.items p (λ (e : plain.Entry). e.terms.at ∷ e.terms.end ∷ e.terms.anchor ∷ e.terms.charge ∷ []) (λ x. refl)
-    (λ e r f g s. picked (p (plain_entry e)) (e.at.0 ∷ e.end.0 ∷ e.anchor.0 ∷ e.charge ∷ []) r (search (rules, tests))) in
+    (λ e r g s. picked (p (plain_entry e)) (e.at.0 ∷ e.end.0 ∷ e.anchor.0 ∷ e.charge ∷ []) r (search (rules, tests))) in
     reads-run term_words 5 (λ x. refl) (past_deadline c.args.time.0 l) _ _ _ l _ c.args.lent.now _ _ (goes_on _ 3 0 (ap not (sym c.is_time.ensures ∙ c.if-not-is_time.false))) run c.list.ensures

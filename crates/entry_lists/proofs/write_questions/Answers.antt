@@ -16,7 +16,7 @@ put_questions-count-requires c =
     let a = c.args.ledger.now in
     let t = at_turn a c.requires.0 l.slot-index (omega arith) in
     let all = length (concat_map (questions_of a.local.0) (entries_of a)) in
-    (t.fits _, asks_room a.local.0 l.count (0 + all) (length l.lent) _ _ _ (t.next _) (sym c.is_asking.ensures ∙ c.if-is_asking.true) l.invariant.some (omega (arith, c.requires.1, l.invariant.size)))
+    asks_room a.local.0 l.count (0 + all) (length l.lent) _ _ _ (t.next _) (sym c.is_asking.ensures ∙ c.if-is_asking.true) l.invariant.some (omega (arith, c.requires.1, l.invariant.size))
 
 pub loop-slot-preserved : goal.loop-slot-preserved
 loop-slot-preserved c =
@@ -24,7 +24,7 @@ loop-slot-preserved c =
     let a = c.args.ledger.now in
     let t = at_turn a c.requires.0 l.slot-index (omega arith) in
     elim c.if-is_asking.branch [
-      | then-is_asking w ↦ rw (w.count-is, w.lent-is) (put-run question_words 5 _ _ _ _ 8 _ _ _ w.put_questions-count.ensures (next_asks a.local.0 _ _ _ (t.next _) (sym c.is_asking.ensures ∙ w.if-is_asking.true)) (asks_few a.local.0 _ (t.fits _)) (omega arith) l.invariant)
+      | then-is_asking w ↦ rw (w.count-is, w.lent-is) (put-run question_words 5 _ _ _ _ 8 _ _ _ w.put_questions-count.ensures (next_asks a.local.0 _ _ _ (t.next _) (sym c.is_asking.ensures ∙ w.if-is_asking.true)) (asks_few a.local.0 _) (omega arith) l.invariant)
       | else-is_asking w ↦ rw (w.count-is, w.lent-is) (passed_by question_words 5 _ _ _ _ (next_silent a.local.0 _ _ _ (t.next _) (sym c.is_asking.ensures ∙ w.if-is_asking.false)) (omega arith) l.invariant)
     ]
 

@@ -13,11 +13,8 @@ returns-in_default c =
     let a = c.args in
     not-owed a.ledger c.requires (number_of a.tx) a.lent.now (claimants_of a.ledger.local.0 a.r.0) 0 refl (rw c.in_default.is at c.slot_of.ensures)
 
-pub destinations-shards-requires : goal.destinations-shards-requires
-destinations-shards-requires c = (owed_in c.args.ledger c.requires (number_of c.args.tx) c.in-Some.slot (rw c.in-Some.is at c.slot_of.ensures)).fits _
-
 pub list-requires : goal.list-requires
-list-requires c = set_room c.destinations-shards.ensures
+list-requires c = set_room c.destinations-shards.result
 
 pub returns : goal.returns
 unfolding claimants contents
@@ -25,4 +22,4 @@ returns c =
     let a = c.args in
     let d = c.destinations-shards.ensures in
     of_owed a.ledger c.requires (number_of a.tx) a.lent.now (claimants_of a.ledger.local.0 a.r.0) 0 refl c.in-Some.slot _ _ _ _ _
-    (owed_in a.ledger c.requires (number_of a.tx) c.in-Some.slot (rw c.in-Some.is at c.slot_of.ensures)) (set_room d) d.holds c.list.ensures
+    (owed_in a.ledger c.requires (number_of a.tx) c.in-Some.slot (rw c.in-Some.is at c.slot_of.ensures)) (set_room c.destinations-shards.result) d.holds c.list.ensures

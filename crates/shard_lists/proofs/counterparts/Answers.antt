@@ -14,11 +14,10 @@ returns-in_default c =
 pub beyond-shards-requires : goal.beyond-shards-requires
 unfolding contents
 beyond-shards-requires c =
-    let there = owed_in c.args.ledger c.requires (number_of c.args.tx) c.in-Some.slot (rw c.in-Some.is at c.slot_of.ensures) in
-    (there.fits _, record { sound = c.requires.departures; rising = c.requires.good.departures.rows.order; good = c.requires.good.departures.rows.each }, c.requires.good.frame.local, le-leb c.args.depth 32 (omega arith))
+    (c.requires.good.departures.rows.each, c.requires.good.frame.local, le-leb c.args.depth 32 (omega arith))
 
 pub list-requires : goal.list-requires
-list-requires c = set_room c.beyond-shards.ensures
+list-requires c = set_room c.beyond-shards.result
 
 pub returns : goal.returns
 returns c =

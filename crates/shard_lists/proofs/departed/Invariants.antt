@@ -8,4 +8,4 @@ use Rattle.shard_lists.proofs.departed.Given as goal
 abbrev pub invariant-loop-d : goal.invariant-loop-d
 invariant-loop-d l =
     let x = l.fn.on_file in
-    (l.shards.len ≤ l.d-index) × Written 40 (departed_over l.anchor.0 l.far (on_file x)) (departed_over l.anchor.0 l.far (drop l.d-index (on_file x))) l.shards
+    (l.shards.1.0 ≤ l.d-index) × Written 40 (departed_over l.anchor.0 l.far (on_file x)) (departed_over l.anchor.0 l.far (drop l.d-index (on_file x))) l.shards.0 l.shards.1.0

@@ -1,7 +1,6 @@
 -- The edges from the i-th on are named.
-use Rattle.store.specs.Issuers.{Worded}
 use Rattle.calls.proofs.Named.{NamedFrom}
 use Rattle.calls.proofs.admission.name_issued.Given as goal
 
 abbrev pub invariant-loop-i : goal.invariant-loop-i
-invariant-loop-i l = NamedFrom l.initial.issuers l.e l.local.0 l.issuers l.i × Worded l.issuers
+invariant-loop-i l = NamedFrom l.initial.issuers l.e l.local.0 l.issuers l.i

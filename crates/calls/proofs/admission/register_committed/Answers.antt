@@ -31,7 +31,7 @@ returns-then-is_full c =
 pub insert_at-ledger-requires : goal.insert_at-ledger-requires
 insert_at-ledger-requires c =
     let k = c.args.ledger.roster in
-    (c.requires.roster, omega (arith, c.rank.ensures, rank_le (below c.transaction-tx.result.0) (keys_of k), length-take-le k.len k.keys (omega (arith, c.requires.roster.room, c.requires.roster.key_length))), omega arith)
+    (omega (arith, c.rank.ensures, rank_le (below c.transaction-tx.result.0) (keys_of k), length-take-le k.len k.keys (omega (arith, k.room, k.lengths.0))), omega arith)
 
 pub name_issued-ledger-requires : goal.name_issued-ledger-requires
 name_issued-ledger-requires c =
@@ -40,7 +40,7 @@ name_issued-ledger-requires c =
     c.entry-e.result (rw c.in-Ok.ensures.read at c.entry-e.ensures) (all_words_lem c.args.words.now (λ i. omega (arith, c.type_inv.words i)))
 
 pub bounds-ledger-slot : goal.bounds-ledger-slot
-bounds-ledger-slot c = (free_slot_lem c.args.ledger.roster c.requires.roster (omega arith)).0
+bounds-ledger-slot c = (free_slot_lem c.args.ledger.roster (omega arith)).0
 
 pub returns : goal.returns
 returns c =
@@ -48,4 +48,4 @@ returns c =
     admits c.args.ledger c.requires c.args.words.now c.in-Ok.ensures.refused
     (says _ _ _ _ _ c.find.ensures c.transaction-tx.ensures c.in-Ok.ensures.read _ c.in-None.is) (omega arith)
     c.entry-e.result (rw c.in-Ok.ensures.read at c.entry-e.ensures) (all_words_lem c.args.words.now (λ i. omega (arith, c.type_inv.words i)))
-    c.rank.result (c.rank.ensures ∙ ap (λ v. rank (below v) (keys_of c.args.ledger.roster)) t) c.insert_at-ledger.result (rw t at c.insert_at-ledger.ensures) c.name_issued-ledger.result c.name_issued-ledger.ensures
+    c.rank.result (c.rank.ensures ∙ ap (λ v. rank (below v) (keys_of c.args.ledger.roster)) t) c.insert_at-ledger.result (rw t at c.insert_at-ledger.ensures) c.name_issued-ledger.result c.name_issued-ledger.ensures _

@@ -24,8 +24,8 @@ pub with_absence-requires : goal.with_absence-requires
 unfolding plain_entry
 with_absence-requires c =
     let there = owed_in c.args.ledger c.requires (number_of c.args.tx) c.in-Some.slot (rw c.in-Some.is at c.slot_of.ensures) in
-    room_for _ (absence c.args.shard.0 c.args.key) (there.fits _) (there.good _).absence_order (search rules)
+    room_for _ (absence c.args.shard.0 c.args.key) (there.good _).absence_order (search rules)
 
 pub returns : goal.returns
 returns c =
-    absence_new c.args.ledger c.requires (number_of c.args.tx) (absence c.args.shard.0 c.args.key) c.in-Some.slot (rw c.in-Some.is at c.slot_of.ensures) _ (sym c.is_shard.ensures ∙ c.if-not-is_shard.false) (sym c.is_read.ensures ∙ c.if-is_read.false) (search rules) (search (rules, tests)) c.with_absence.result c.with_absence.ensures
+    absence_new c.args.ledger c.requires (number_of c.args.tx) (absence c.args.shard.0 c.args.key) c.in-Some.slot (rw c.in-Some.is at c.slot_of.ensures) _ (sym c.is_shard.ensures ∙ c.if-not-is_shard.false) (sym c.is_read.ensures ∙ c.if-is_read.false) (search rules) (search (rules, tests)) c.with_absence.result c.with_absence.ensures _

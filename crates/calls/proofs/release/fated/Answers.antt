@@ -10,10 +10,10 @@ pub returns-in_default : goal.returns-in_default
 returns-in_default c = fated_unknown c.args.ledger c.requires (number_of c.args.tx) (sym c.find.ensures ∙ c.in_default.is)
 
 pub offset_bounds-ledger-k : goal.offset_bounds-ledger-k
-offset_bounds-ledger-k c = omega (arith, (found_at c.args.ledger c.requires (number_of c.args.tx) c.in-Some.k (sym c.find.ensures ∙ c.in-Some.is)).place, c.requires.roster.room)
+offset_bounds-ledger-k c = omega (arith, (found_at c.args.ledger c.requires (number_of c.args.tx) c.in-Some.k (sym c.find.ensures ∙ c.in-Some.is)).place, c.args.ledger.roster.room)
 
 pub bounds-ledger-k : goal.bounds-ledger-k
-bounds-ledger-k c = omega (arith, (found_at c.args.ledger c.requires (number_of c.args.tx) c.in-Some.k (sym c.find.ensures ∙ c.in-Some.is)).place, c.requires.roster.room)
+bounds-ledger-k c = omega (arith, (found_at c.args.ledger c.requires (number_of c.args.tx) c.in-Some.k (sym c.find.ensures ∙ c.in-Some.is)).place, c.args.ledger.roster.room)
 
 pub bounds-ledger-slot : goal.bounds-ledger-slot
 bounds-ledger-slot c _ = (found_at c.args.ledger c.requires (number_of c.args.tx) c.in-Some.k (sym c.find.ensures ∙ c.in-Some.is)).slot
@@ -25,10 +25,10 @@ returns-then-not-is_leg c =
 
 pub remove_at-ledger-requires : goal.remove_at-ledger-requires
 remove_at-ledger-requires c =
-    (c.requires.roster, (found_at c.args.ledger c.requires (number_of c.args.tx) c.in-Some.k (sym c.find.ensures ∙ c.in-Some.is)).place)
+    (found_at c.args.ledger c.requires (number_of c.args.tx) c.in-Some.k (sym c.find.ensures ∙ c.in-Some.is)).place
 
 pub returns : goal.returns
 unfolding plain_entry
 returns c =
     fated-leg c.args.ledger c.requires (number_of c.args.tx) c.in-Some.k _ (sym c.find.ensures ∙ c.in-Some.is)
-    (sym c.is_leg.ensures ∙ c.if-not-is_leg.false) c.remove_at-ledger.result c.without-ledger.result c.remove_at-ledger.ensures c.without-ledger.ensures
+    (sym c.is_leg.ensures ∙ c.if-not-is_leg.false) c.remove_at-ledger.result c.without-ledger.result c.remove_at-ledger.ensures c.without-ledger.ensures _

@@ -10,8 +10,8 @@ returns-in_default c = forget_unknown c.args.ledger c.requires (number_of c.args
 
 pub remove_at-ledger-requires : goal.remove_at-ledger-requires
 remove_at-ledger-requires c =
-    (c.requires.roster, (found_at c.args.ledger c.requires (number_of c.args.tx) c.in-Some.k (sym c.find.ensures ∙ c.in-Some.is)).place)
+    (found_at c.args.ledger c.requires (number_of c.args.tx) c.in-Some.k (sym c.find.ensures ∙ c.in-Some.is)).place
 
 pub returns : goal.returns
 returns c =
-    forget-owed c.args.ledger c.requires (number_of c.args.tx) c.in-Some.k (sym c.find.ensures ∙ c.in-Some.is) c.remove_at-ledger.result c.without-ledger.result c.remove_at-ledger.ensures c.without-ledger.ensures
+    forget-owed c.args.ledger c.requires (number_of c.args.tx) c.in-Some.k (sym c.find.ensures ∙ c.in-Some.is) c.remove_at-ledger.result c.without-ledger.result c.remove_at-ledger.ensures c.without-ledger.ensures _

@@ -1,11 +1,7 @@
 -- The shard is put on file once, and stamped where it is to be.
 use Rattle.std.proofs.Common.{arith}
-use Rattle.calls.proofs.Departing.{filed_open, filed_dated, rises_after}
+use Rattle.calls.proofs.Departing.{filed_open, filed_dated}
 use Rattle.calls.proofs.terminal.filed.Goals as goal
-
-pub stamped-requires : goal.stamped-requires
-stamped-requires c =
-    (c.departed-known.ensures.sound, rises_after c.args.shard.0 c.args.cut.0 c.args.stamped c.args.until.0 c.args.departures c.requires.1 c.departed-known.result c.departed-known.ensures)
 
 pub returns-then-stamped-eq0 : goal.returns-then-stamped-eq0
 returns-then-stamped-eq0 c =

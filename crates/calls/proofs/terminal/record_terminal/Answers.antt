@@ -1,7 +1,7 @@
 -- The departures alone change, and each is put on file once.
 use Rattle.std.proofs.Common.{◌∙◌, sym}
 use Rattle.ledger.specs.Contents.{contents}
-use Rattle.calls.proofs.Departing.{terminal-refused, terminal_full, terminal_filed, room, file_rises}
+use Rattle.calls.proofs.Departing.{terminal-refused, terminal_full, terminal_filed, room}
 use Rattle.calls.proofs.terminal.record_terminal.Goals as goal
 
 pub returns-in-Err : goal.returns-in-Err
@@ -15,9 +15,9 @@ returns-then-not-has_room c =
 pub filed-ledger-requires : goal.filed-ledger-requires
 unfolding contents
 filed-ledger-requires c =
-    (c.requires.departures, file_rises c.args.ledger c.requires, room c.args.ledger c.requires c.args.shard.0 c.args.cut.0 c.args.stamped c.args.until.0 c.in_default.ensures (sym c.has_room.ensures ∙ c.if-not-has_room.false))
+    room c.args.ledger c.requires c.args.shard.0 c.args.cut.0 c.args.stamped c.args.until.0 c.in_default.ensures (sym c.has_room.ensures ∙ c.if-not-has_room.false)
 
 pub returns : goal.returns
 unfolding contents
 returns c =
-    terminal_filed c.args.ledger c.requires c.args.shard.0 c.args.cut.0 c.args.stamped c.args.until.0 c.in_default.ensures (sym c.has_room.ensures ∙ c.if-not-has_room.false) c.filed-ledger.result c.filed-ledger.ensures
+    terminal_filed c.args.ledger c.requires c.args.shard.0 c.args.cut.0 c.args.stamped c.args.until.0 c.in_default.ensures (sym c.has_room.ensures ∙ c.if-not-has_room.false) c.filed-ledger.result c.filed-ledger.ensures _

@@ -14,7 +14,6 @@ unfolding plain_entry
 returns-then-is_read c =
     let a = c.args in
     record {
-      fits = fits_of a.self;
       plain = rw (include-known absence_key (absence a.shard.0 a.key) (absences_of a.self) c.requires.rising (sym c.is_read.ensures ∙ c.if-is_read.true));
     }
 
@@ -30,27 +29,9 @@ pub returns : goal.returns
 unfolding plain_entry
 returns c =
     let a = c.args in
-    let f = fits_of a.self in
     let new = sym c.is_read.ensures ∙ c.if-is_read.false in
     let few = absence-room a.self a.shard.0 a.key c.requires new in
     let k = c.rank-k.ensures (λ x. below (absence a.shard.0 a.key) (plain_absence x)) (λ x b q. search (rules, tests)) ∙ sym (map-rank plain_absence (below (absence a.shard.0 a.key)) (take a.self.absences_len a.self.absences)) in
     record {
-      fits = record {
-        routes_len = f.routes_len;
-        core_len = f.core_len;
-        edges_len = f.edges_len;
-        absences_len = omega (arith, few);
-        marks_len = f.marks_len;
-        few = f.few;
-        routes = f.routes;
-        core = f.core;
-        ids = f.ids;
-        froms = f.froms;
-        kinds = f.kinds;
-        sizes = f.sizes;
-        to = f.to;
-        absences = c.insert_at.ensures.size ∙ f.absences;
-        marks = f.marks;
-      };
       plain = rw (absence-put a.self a.shard.0 a.key c.requires _ _ _ refl new k c.insert_at.ensures);
     }

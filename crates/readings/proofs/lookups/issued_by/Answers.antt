@@ -1,14 +1,9 @@
 -- The index holds the pairs that the entries give.
 use Rattle.std.proofs.Common.{ap, ◌∙◌}
 use Rattle.rules.specs.Index.{names}
-use Rattle.rules.proofs.Named.{index_rises}
 use Rattle.types.specs.Transactions.{number_of}
-use Rattle.ledger.specs.Contents.{contents}
 use Rattle.readings.proofs.Looked.{says}
 use Rattle.readings.proofs.lookups.issued_by.Goals as goal
-
-pub names-requires : goal.names-requires
-names-requires c = (c.requires.issuers.sound, rw c.requires.issuers.pairs (index_rises (contents c.args.ledger)))
 
 pub returns : goal.returns
 returns c = says _ _ _ _ c.from.ensures (c.names.ensures ∙ ap (λ l. names l c.args.r.0 (number_of c.args.tx)) c.requires.issuers.pairs)

@@ -11,9 +11,9 @@ returns-then-lent-c c = closes_short c.args.ledger c.requires c.args.lent.now c.
 
 pub list_closed-requires : goal.list_closed-requires
 list_closed-requires c =
-    (c.requires.roster.room, omega (arith, listed-length c.args.ledger c.requires c.args.lent.now c.of-c.result c.of-c.ensures, c.if-lent-c.false))
+    (c.args.ledger.roster.room, omega (arith, listed-length c.args.ledger c.requires c.args.lent.now c.of-c.result c.of-c.ensures, c.if-lent-c.false))
 
 pub returns : goal.returns
 returns c =
     closes-done c.args.ledger c.requires c.args.lent.now c.of-c.result c.of-c.ensures c.if-lent-c.false
-    c.retain-ledger.result c.retain-ledger.ensures c.without_dropped-ledger.result c.without_dropped-ledger.ensures _ c.list_closed.ensures
+    c.retain-ledger.result c.retain-ledger.ensures c.without_dropped-ledger.result c.without_dropped-ledger.ensures _ c.list_closed.ensures _

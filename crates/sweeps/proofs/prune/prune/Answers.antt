@@ -18,4 +18,4 @@ pub returns : goal.returns
 returns c =
     prune-done c.args.ledger c.requires c.args.time.0 c.args.lent.now c.of-p.result c.of-p.ensures
     c.retain-left.result c.retain-left.ensures c.without_dropped-ledger.result c.without_dropped-ledger.ensures c.retain-ledger.result c.retain-ledger.ensures
-    c.in_default.ensures _ c.write_reports.ensures
+    c.in_default.ensures _ c.write_reports.ensures _

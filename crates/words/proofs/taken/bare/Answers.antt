@@ -4,7 +4,6 @@ use Rattle.lists.specs.Lists.{zip_by, cut}
 use Rattle.rules.specs.Words.{edge, with}
 use Rattle.types.specs.Transactions.{number_of}
 use Rattle.entry.specs.Entry.{plain_entry, plain_part, plain_absence, certificate_number}
-use Rattle.entry.proofs.Shape.{fits_of}
 use Rattle.words.proofs.Built.{figure, first_figure}
 use Rattle.words.proofs.taken.bare.Goals as goal
 
@@ -16,7 +15,6 @@ returns c =
     let b = c.blank-e.ensures in
     let e = c.blank-e.result in
     record {
-      fits = fits_of _;
       plain = λ i. record {
         terms = record {
           transaction = first_figure w a.at (number_of c.read-e.result) c.read-e.ensures i;

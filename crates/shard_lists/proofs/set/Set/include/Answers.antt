@@ -1,5 +1,5 @@
 -- One more has room, and with it the numbers still rise.
-use Rattle.std.proofs.Common.{◌∙◌, arith}
+use Rattle.std.proofs.Common.{arith}
 use Rattle.lists.specs.Lists.{self}
 use Rattle.lists.proofs.Order.{length-include, ascending-include}
 use Rattle.shard_lists.specs.Sets.{front}
@@ -9,17 +9,10 @@ use Rattle.shard_lists.proofs.set.Set.include.Goals as goal
 pub include-self-requires : goal.include-self-requires
 include-self-requires c =
     let s = c.args.self.now in
-    let h = c.requires.0.sized in
-    (omega (arith, h.room, h.size), c.requires.0.rising, omega (arith, length-include self c.args.x.0 (front s), front_length s h, h.size, c.requires.1))
+    (omega (arith, s.room, s.size), s.rising, omega (arith, length-include self c.args.x.0 (front s), front_length s, s.size, c.requires))
 
 pub returns : goal.returns
-returns c =
-    let o = c.include-self.ensures in
-    let h = c.requires.0 in
-    record {
-      sound = record {
-        sized = record { room = omega (arith, o.room, o.size, h.sized.size); size = o.size ∙ h.sized.size };
-        rising = rw o.front (ascending-include self c.args.x.0 (front c.args.self.now) h.rising);
-      };
-      holds = o.front;
-    }
+returns c = record { holds = c.include-self.ensures.front }
+
+pub invariant_of-self-clause-rising : goal.invariant_of-self-clause-rising
+invariant_of-self-clause-rising c = rw c.include-self.ensures.front (ascending-include self c.args.x.0 (front c.args.self.now) c.args.self.now.rising)

@@ -4,8 +4,8 @@ use Rattle.sweeps.proofs.Reporting.{pass_none, local-good, validity-good, leg-go
 use Rattle.sweeps.proofs.prune.Pruning.of.Goals as goal
 use Rattle.sweeps.proofs.prune.Pruning.of.Goals.{in-Stands+then-p, in-Stands+else-p, in-Falls, in-Reported}
 
-pub of-view-requires-clause-every : goal.of-view-requires-clause-every
-of-view-requires-clause-every c = file-good c.args.ledger.now c.requires c.args.time.0
+pub of-view-requires : goal.of-view-requires
+of-view-requires c = file-good c.args.ledger.now c.requires c.args.time.0
 
 pub loop-i-init : goal.loop-i-init
 loop-i-init c = rw c.begun-p.ensures (pass_none c.args.ledger.now c.requires c.args.time.0)

@@ -3,7 +3,6 @@ use Rattle.std.proofs.Common.{◌≡◌, ap, ◌∙◌, ◌+◌, ◌*◌, arith,
 use Rattle.lists.proofs.Cuts.{part-front, part_length}
 use Rattle.rules.specs.Words.{core_count, edge_count, core_at, edges_at, core_in, sizes, admission_terms}
 use Rattle.entry.specs.Entry.{plain_entry, plain_part, certificate_number, absences_of}
-use Rattle.entry.proofs.Shape.{fits_of}
 use Rattle.words.proofs.Forms.{formed_of, kinds_short, sizes_short, kinds_narrow, sizes_narrow, to_short}
 use Rattle.words.proofs.Built.{edges_built, destinations_built}
 use Rattle.words.proofs.admission.Admission.with_edges.Goals as goal
@@ -61,7 +60,6 @@ returns c =
     size
     (destinations_built w p.destinations.now c.front-to.result f s.to c.front-to.ensures.1) in
     record {
-      fits = fits_of _;
       plain = λ i. record {
         terms = record {
           transaction = (old i).transaction;
