@@ -39,13 +39,13 @@ pub fn may_prune(clocks: &[u64], reports: usize, counts: usize) -> bool
     is_nondecreasing(clocks) && has_room(clocks.len(), reports, counts)
 }
 
-// How many fell and how many reports were written in all, the ledger after the first prunes that the caller asked for, and the last one's.
+// How many fell and how many reports were written in all, the ledger after the first prunes that the caller asked for, and after the last.
 #[derive(Clone, Copy)]
 pub struct PrunedAll {
     pub fallen: u64,
     pub written: usize,
     pub between: Ledger,
-    pub ledger: Ledger,
+    pub after: Ledger,
 }
 
 // A prune at each clock in turn, the reports one prune's after the other's, and the numbers of each prune. The ledger after the first k is
@@ -85,6 +85,6 @@ pub fn prune_all(
         fallen,
         written,
         between,
-        ledger,
+        after: ledger,
     }
 }
