@@ -12,17 +12,17 @@ use types::widths::{REPORT_WORDS, REPORTS_ROOM};
 use types::{Time, is_time};
 
 // Whether the clocks are times and never fall.
+#[tactic(auto, using(crate::proofs::Clocks::steady_sorted, crate::proofs::Clocks::steady_not))]
 fn is_nondecreasing(clocks: &[u64]) -> bool
     ensures { result ≡ steady 0 clocks.now }
 {
-    let mut last = 0;
-    for clock in clocks {
-        if *clock < last || !is_time(*clock) {
-            return false;
-        }
-        last = *clock;
-    }
-    true
+    clocks.is_sorted() && are_times(clocks)
+}
+
+fn are_times(clocks: &[u64]) -> bool
+    ensures { result ≡ all is_time clocks.now }
+{
+    clocks.iter().all(|clock| is_time(*clock))
 }
 
 // Whether there is room for a report of each of the 48 entries, and for two numbers of each of so many prunes.
