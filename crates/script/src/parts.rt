@@ -5,12 +5,12 @@
 // takes no list nothing is lent.
 ghost use Rattle.std.specs.Prelude.{◌≡◌, ◌≤◌, ◌<◌, IsTrue, IfSome, MatchResult, cond, false, length, take, drop};
 ghost use Rattle.script.specs.Texts.{same_text};
-ghost use Rattle.script.specs.Calls.{codes, takes_list, Takes};
+ghost use Rattle.script.specs.Calls.{takes_list, Takes};
 ghost use Rattle.script.specs.Grammar.{behind, tail_of, numbers_of, lent_text, lent_of, lent_number, is_remark, Small};
 ghost use Rattle.script.specs.Parse.{Says, Fits};
 ghost use Rattle.script.specs.declared.line.Line.{Line};
 
-use crate::calls::REPEAT;
+use crate::calls::{Code, REPEAT};
 use crate::line::{Call, Line};
 use crate::lines::TooLong;
 use crate::{calls, numbers, tokens};
@@ -64,14 +64,14 @@ fn call_in(line: &[u8], numbers: &mut [u64; 2048]) -> Option<Line>
 }
 
 // A call with what stands behind its name, where the two fit.
-fn checked(code: usize, tail: Tail, first: u64) -> Option<Line>
-    requires { (code < codes) × Small tail }
-    ensures { IfSome result (Fits code tail first) }
+fn checked(code: Code, tail: Tail, first: u64) -> Option<Line>
+    requires { Small tail }
+    ensures { IfSome result (Fits code.place tail first) }
 {
     if !takes(code, tail.count) {
         return None;
     }
-    if code == REPEAT {
+    if code.place == REPEAT {
         return repeat(tail, first);
     }
     Some(Line::Call(call(code, tail.count, tail.lent.unwrap_or(0))))
@@ -88,17 +88,16 @@ fn repeat(tail: Tail, first: u64) -> Option<Line>
 }
 
 // Whether a call takes so many numbers.
-fn takes(code: usize, count: usize) -> bool
-    requires { code < codes }
-    ensures { IsTrue result → Takes code count }
+fn takes(code: Code, count: usize) -> bool
+    ensures { IsTrue result → Takes code.place count }
 {
     calls::count_of(code).is_none_or(|own| own == count)
 }
 
 // A call, lent nothing where it takes no list.
-fn call(code: usize, count: usize, lent: usize) -> Call
-    requires { (0 < code) × (code < codes) × (count ≤ 2048) × (lent ≤ 4096) × Takes code count }
-    ensures { (result.code ≡ code) × (result.count ≡ count) × (result.lent ≡ cond (takes_list code) lent 0) }
+fn call(code: Code, count: usize, lent: usize) -> Call
+    requires { (0 < code.place) × (count ≤ 2048) × (lent ≤ 4096) × Takes code.place count }
+    ensures { (result.code ≡ code) × (result.count ≡ count) × (result.lent ≡ cond (takes_list code.place) lent 0) }
 {
     let words = if calls::takes_list(code) { lent } else { 0 };
     Call {
