@@ -4,9 +4,8 @@
 // and is not among the 2,048 numbers. `repeat` has one number from 1 and no lent. To a call that
 // takes no list nothing is lent.
 ghost use Rattle.std.specs.Prelude.{◌≡◌, ◌≤◌, ◌<◌, IsTrue, IfSome, MatchResult, cond, false, length, take, drop};
-ghost use Rattle.script.specs.Texts.{same_text};
 ghost use Rattle.script.specs.Calls.{takes_list, Takes};
-ghost use Rattle.script.specs.Grammar.{behind, tail_of, numbers_of, lent_text, lent_of, lent_number, is_remark, Small};
+ghost use Rattle.script.specs.Grammar.{behind, tail_of, numbers_of, lent_of, lent_number, is_remark, Small};
 ghost use Rattle.script.specs.Parse.{Says, Fits};
 ghost use Rattle.script.specs.declared.line.Line.{Line};
 
@@ -121,7 +120,8 @@ fn tail_of(line: &[u8], from: usize, numbers: &mut [u64]) -> Option<Tail>
         let begin = at + 1;
         let end = tokens::token_end(line, begin);
         let token = &line[begin..end];
-        if is_lent(token) {
+        let is_lent = token == b"lent".as_slice();
+        if is_lent {
             return with_lent(line, end, count);
         }
         let n = numbers::value_of(token)?;
@@ -133,12 +133,6 @@ fn tail_of(line: &[u8], from: usize, numbers: &mut [u64]) -> Option<Tail>
         at = end;
     }
     Some(Tail { count, lent: None })
-}
-
-fn is_lent(token: &[u8]) -> bool
-    ensures { result ≡ same_text token.now lent_text }
-{
-    token == b"lent".as_slice()
 }
 
 // The lent count, which begins behind the space at `at` and ends the line.
