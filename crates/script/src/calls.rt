@@ -76,6 +76,7 @@ const ROWS: [Row; CODES] = [
 ];
 
 // How many numbers a call takes, where not any count will do.
+#[tactic(auto, unfolding(crate::specs::Calls::count_of))]
 pub fn count_of(code: Code) -> Option<usize>
     ensures { result ≡ count_of code.place }
 {
@@ -83,6 +84,7 @@ pub fn count_of(code: Code) -> Option<usize>
 }
 
 // Whether a call takes a list.
+#[tactic(auto, unfolding(crate::specs::Calls::takes_list))]
 pub fn takes_list(code: Code) -> bool
     ensures { result ≡ takes_list code.place }
 {
