@@ -2,13 +2,14 @@
 -- Assumes nothing.
 use Prim.Native.Nat.{ℕ, ◌*◌, ◌≤◌, ◌<◌}
 use mathlib.Core.Path.{◌≡◌, refl, sym, ap, ap₂, ◌∙◌}
-use mathlib.Core.Bool.{Bool, true, false, false≢true, ◌&&◌}
+use mathlib.Core.Bool.{Bool, true, false, ◌&&◌}
 use mathlib.Core.List.{List, [], ◌∷◌}
 use native.Mathlib.Omega.{arith}
 use lib.Dec.{leb}
 use borrow.Author.Tests.{leb-true}
 use lib.ListN.{length, take, drop}
 use lib.Seq.{take-append_seam}
+use Rattle.std.specs.Prelude.{Some, None}
 use Rattle.lists.specs.Lists.{concat_map, all}
 use Rattle.lists.proofs.Listing.{length-words}
 use Rattle.lists.proofs.Tests.{and_left, and_right}
@@ -23,7 +24,6 @@ use Rattle.rules.proofs.Named.{index-names}
 use Rattle.ledger.specs.declared.Ledger.{Ledger}
 use Rattle.ledger.specs.Contents.{contents, Held}
 use Rattle.claim.specs.declared.series.PrunedAll.{PrunedAll}
-use Rattle.claim.specs.declared.RunAndPruned.{RunAndPruned}
 use Rattle.claim.specs.Calls.{lent_after}
 use Rattle.claim.specs.Series.{steady, all_counts, firsts_of, seconds_of, reports_in, Series}
 use Rattle.claim.specs.Claim.{lent, Equals, may_prune, InTurn, AsOne, Claim}
@@ -60,9 +60,8 @@ may clocks report_list count_list e =
     }
 
 -- the series in the claim's words
-pub in_turn_lem : (p : Plain) (clocks : List ℕ) (k : ℕ) (was is counts_were counts_are : List ℕ) (r : RunAndPruned) → Good p → all is_time clocks ≡ true →
-    Series k clocks p was is counts_were counts_are (record { fallen = r.fallen; written = r.written; between = r.between; ledger = r.after }) →
-    InTurn p clocks k (lent was is) (lent counts_were counts_are) r
+pub in_turn_lem : (p : Plain) (clocks : List ℕ) (k : ℕ) (was is counts_were counts_are : List ℕ) (r : PrunedAll) → Good p → all is_time clocks ≡ true →
+    Series k clocks p was is counts_were counts_are r → InTurn p clocks k (lent was is) (lent counts_were counts_are) r
 in_turn_lem p clocks k was is counts_were counts_are r g times s =
     record {
       between = equals (prunes (take k clocks) p) r.between s.held_between s.left_between;
@@ -80,12 +79,12 @@ read_back [] = refl
 read_back (r ∷ rs) = ap (λ l. r ∷ l) (read_back rs)
 
 -- the series is one prune at the last clock
-pub as_one_lem : (p : Plain) (clocks : List ℕ) (k : ℕ) (was is counts_were counts_are : List ℕ) (r : RunAndPruned) → Good p → contents r.before ≡ p → steady 0 clocks ≡ true →
-    Series k clocks p was is counts_were counts_are (record { fallen = r.fallen; written = r.written; between = r.between; ledger = r.after }) → 0 < length clocks →
-    AsOne p clocks (last_of 0 clocks) (lent was is) (lent counts_were counts_are) r
+pub as_one_lem : (p : Plain) (clocks : List ℕ) (k : ℕ) (was is counts_were counts_are : List ℕ) (before : Ledger) (r : PrunedAll) → Good p → contents before ≡ p → steady 0 clocks ≡ true →
+    Series k clocks p was is counts_were counts_are r → 0 < length clocks →
+    AsOne p clocks (last_of 0 clocks) (lent was is) (lent counts_were counts_are) before r
 unfolding contents pruned
-as_one_lem p [] k was is counts_were counts_are r g e v s some = absurd (omega (arith, some))
-as_one_lem p (t ∷ ts) k was is counts_were counts_are r g e v s some =
+as_one_lem p [] k was is counts_were counts_are before r g e v s some = absurd (omega (arith, some))
+as_one_lem p (t ∷ ts) k was is counts_were counts_are before r g e v s some =
     let clocks : List ℕ = t ∷ ts in
     let last : ℕ = last_of t ts in
     let o : AsOnce t ts p = as_once t ts (steady_so 0 clocks v).1 p g.entries.rows.order in
@@ -117,15 +116,15 @@ as_one_lem p (t ∷ ts) k was is counts_were counts_are r g e v s some =
 pub unpruned : (start : Plain) (calls : List Call) (clocks : List ℕ) (k : ℕ) (was is report_list count_list : List ℕ) (l : Ledger) → Held l →
     contents l ≡ run calls start → is ≡ lent_after calls start was → may_prune clocks report_list count_list ≡ false →
     Claim start calls clocks k (lent was is) (lent report_list report_list) (lent count_list count_list)
-    (record { made = false; fallen = 0; written = 0; before = l; between = l; after = l })
+    (record { before = l; pruned = None })
 unpruned start calls clocks k was is report_list count_list l h e w n =
     record {
       listed = equals (run calls start) l h e;
       wrote = w;
       made = sym n;
-      in_turn = λ f. absurd (false≢true f);
-      as_one = λ f some. absurd (false≢true f);
-      no_prune = λ f. record { between = refl; after = refl; gone = refl; many = refl; reports = refl; counts = refl };
+      in_turn = tt;
+      as_one = λ some. tt;
+      no_prune = record { reports = refl; counts = refl };
     }
 
 -- where the prunes are made
@@ -133,7 +132,7 @@ pub all-pruned : (start : Plain) (calls : List Call) (clocks : List ℕ) (k : �
     Held l → contents l ≡ run calls start → is ≡ lent_after calls start was → may_prune clocks reports_were counts_were ≡ true →
     Series k clocks (contents l) reports_were reports_are counts_were counts_are r →
     Claim start calls clocks k (lent was is) (lent reports_were reports_are) (lent counts_were counts_are)
-    (record { made = true; fallen = r.fallen; written = r.written; before = l; between = r.between; after = r.ledger })
+    (record { before = l; pruned = Some r })
 all-pruned start calls clocks k was is reports_were reports_are counts_were counts_are l r h e w m series =
     let p : Plain = run calls start in
     let good : Good p = rw e at h.good in
@@ -143,7 +142,7 @@ all-pruned start calls clocks k was is reports_were reports_are counts_were coun
       listed = equals p l h e;
       wrote = w;
       made = sym m;
-      in_turn = λ f. in_turn_lem p clocks k reports_were reports_are counts_were counts_are _ good c.times s;
-      as_one = λ f some. as_one_lem p clocks k reports_were reports_are counts_were counts_are _ good e c.steady s some;
-      no_prune = λ f. absurd (false≢true (sym f));
+      in_turn = in_turn_lem p clocks k reports_were reports_are counts_were counts_are _ good c.times s;
+      as_one = λ some. as_one_lem p clocks k reports_were reports_are counts_were counts_are _ _ good e c.steady s some;
+      no_prune = tt;
     }

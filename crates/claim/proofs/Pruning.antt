@@ -68,7 +68,7 @@ pub record Going (clocks : List ℕ) (start : Plain) (lent list lent_counts coun
   pub fits : gone + length (contents ledger).entries ≤ 48
   pub room : 144 ≤ length list
   pub counting : 2 * length clocks ≤ length counts
-  pub series : Series k (take i clocks) start lent list lent_counts counts (record { fallen = gone; written = many; between = between; ledger = ledger })
+  pub series : Series k (take i clocks) start lent list lent_counts counts (record { fallen = gone; written = many; between = between; after = ledger })
 
 -- the ledger after the first k of the clocks gone through, before and after one more
 kept : (ts : List ℕ) (u k : ℕ) (p : Plain) (old new next : Ledger) → Held old → contents old ≡ prunes (take k ts) p → Held new →
@@ -157,5 +157,5 @@ begun clocks start lent lent_counts k h room counting =
 
 pub ended : (clocks : List ℕ) (start : Plain) (lent list lent_counts counts : List ℕ) (ledger between : Ledger) (gone many i k : ℕ) →
     Going clocks start lent list lent_counts counts ledger between gone many i k → length clocks ≤ i →
-    Series k clocks start lent list lent_counts counts (record { fallen = gone; written = many; between = between; ledger = ledger })
+    Series k clocks start lent list lent_counts counts (record { fallen = gone; written = many; between = between; after = ledger })
 ended clocks start lent list lent_counts counts ledger between gone many i k g h = rw (take_all i clocks h) at g.series

@@ -1,5 +1,6 @@
--- The one claim of the third demand, about every list of calls and every list of clocks after it.
-use Rattle.std.specs.Prelude.{ℕ, ◌*◌, ◌<◌, ◌≡◌, Bool, true, false, ◌&&◌, List, leb, length, take}
+-- The one claim about every list of calls and every list of clocks after it: the ledger equals the plain one, and the prunes are as one at the last.
+use Rattle.std.specs.Prelude.{ℕ, ◌*◌, ◌<◌, ◌≡◌, Bool, ◌&&◌, List, leb, length, take, IfSome, IfNone}
+use Rattle.std.specs.Option.{is_some}
 use Rattle.lists.specs.Lists.{concat_map}
 use Rattle.rules.specs.Widths.{report_size, report_room}
 use Rattle.rules.specs.Plain.{Plain}
@@ -12,6 +13,7 @@ use Rattle.ledger.specs.declared.Ledger.{Ledger}
 use Rattle.ledger.specs.Contents.{contents, Held}
 use Rattle.ledger.specs.Meets.{written}
 use Rattle.claim.specs.declared.RunAndPruned.{RunAndPruned}
+use Rattle.claim.specs.declared.series.PrunedAll.{PrunedAll}
 use Rattle.claim.specs.Calls.{decode, lent_after}
 use Rattle.claim.specs.Series.{steady, all_counts, firsts_of, seconds_of, reports_in, AsCalls}
 
@@ -41,7 +43,7 @@ may_prune clocks report_list count_list = steady 0 clocks && (leb report_room (l
 -- that the ledger is known after each of them, with its index; k = 0 is the ledger before the prunes. One list of 144 words in all is lent
 -- for the reports, and not one for each prune: that is the stronger claim, since what has fallen and what stands are never more than 48, so
 -- no prune is refused that room for 48 reports would let through (`calls`), and what each wrote is still there after the last.
-pub record InTurn (p : Plain) (clocks : List ℕ) (k : ℕ) (report_list count_list : Lent) (r : RunAndPruned) : Type 0 where
+pub record InTurn (p : Plain) (clocks : List ℕ) (k : ℕ) (report_list count_list : Lent) (r : PrunedAll) : Type 0 where
   -- shut out: prunes at the last clock alone, the first clock left out, clocks in another order; for some k the ledger then differs
   pub between : Equals (prunes (take k clocks) p) r.between
   -- shut out: one prune too few at the end
@@ -58,15 +60,15 @@ pub record InTurn (p : Plain) (clocks : List ℕ) (k : ℕ) (report_list count_l
   pub calls : AsCalls clocks p
 
 -- 'and leave and report what one prune at the last would'
-pub record AsOne (p : Plain) (clocks : List ℕ) (last : ℕ) (report_list count_list : Lent) (r : RunAndPruned) : Type 0 where
+pub record AsOne (p : Plain) (clocks : List ℕ) (last : ℕ) (report_list count_list : Lent) (before : Ledger) (r : PrunedAll) : Type 0 where
   -- 'after the prunes, those of the plain ledger pruned once'; shut out: a departure dropped on the way that the last prune would have kept
   pub left : Equals (pruned last p) r.after
   -- 'with local, spans and count unchanged'; shut out: a prune that starts the running count again
-  pub local : r.after.local.0 ≡ r.before.local.0
-  pub validity : r.after.validity ≡ r.before.validity
-  pub core_span : r.after.core_span ≡ r.before.core_span
-  pub leg_span : r.after.leg_span ≡ r.before.leg_span
-  pub rebuilt : r.after.rebuilt ≡ r.before.rebuilt
+  pub local : r.after.local.0 ≡ before.local.0
+  pub validity : r.after.validity ≡ before.validity
+  pub core_span : r.after.core_span ≡ before.core_span
+  pub leg_span : r.after.leg_span ≡ before.leg_span
+  pub rebuilt : r.after.rebuilt ≡ before.rebuilt
   -- 'the reports, put in transaction order, equal the one prune's word for word'; shut out: a report lost or doubled, or with another charge
   pub told : in_order (reports_in (take (report_size * r.written) report_list.is)) ≡ reports last p
   pub words : concat_map report_words (in_order (reports_in (take (report_size * r.written) report_list.is))) ≡ concat_map report_words (reports last p)
@@ -77,13 +79,9 @@ pub record AsOne (p : Plain) (clocks : List ℕ) (last : ℕ) (report_list count
   pub added_fallen : seconds_of (take (2 * length clocks) count_list.is) ≡ length (fallen last p)
   pub added_written : firsts_of (take (2 * length clocks) count_list.is) ≡ length (reports last p)
 
--- Where the clocks fall or are no times, or a list is too short, no prune is made: the ledger before is handed back, both numbers are 0 and
--- neither list is touched. Shut out: a program that answers or writes anything there.
-pub record NoPrune (report_list count_list : Lent) (r : RunAndPruned) : Type 0 where
-  pub between : r.between ≡ r.before
-  pub after : r.after ≡ r.before
-  pub gone : r.fallen ≡ 0
-  pub many : r.written ≡ 0
+-- Where the clocks fall or are no times, or a list is too short, no prune is made: the ledger before is all that is handed back (`made`), and
+-- neither list is touched. Shut out: a program that writes anything there.
+pub record NoPrune (report_list count_list : Lent) : Type 0 where
   pub reports : report_list.is ≡ report_list.was
   pub counts : count_list.is ≡ count_list.was
 
@@ -96,12 +94,12 @@ pub record Claim (start : Plain) (calls : List Call) (clocks : List ℕ) (k : �
   pub listed : Equals (run calls start) r.before
   -- what one outcome writes and then what the next; shut out: a call that is refused and writes, and one that touches words beyond its own
   pub wrote : call_list.is ≡ lent_after calls start call_list.was
-  -- shut out: a program that makes no prune, whatever the clocks
-  pub made : r.made ≡ may_prune clocks report_list.was count_list.was
-  pub in_turn : r.made ≡ true → InTurn (run calls start) clocks k report_list count_list r
+  -- shut out: a program that makes no prune, whatever the clocks, and one that answers anything where none may be made
+  pub made : is_some r.pruned ≡ may_prune clocks report_list.was count_list.was
+  pub in_turn : IfSome r.pruned (InTurn (run calls start) clocks k report_list count_list)
   -- of no clock there is no last
-  pub as_one : r.made ≡ true → 0 < length clocks → AsOne (run calls start) clocks (last_of 0 clocks) report_list count_list r
-  pub no_prune : r.made ≡ false → NoPrune report_list count_list r
+  pub as_one : 0 < length clocks → IfSome r.pruned (AsOne (run calls start) clocks (last_of 0 clocks) report_list count_list r.before)
+  pub no_prune : IfNone r.pruned (NoPrune report_list count_list)
 
 -- the claim of calls that are given as words, and of the three lists as they were lent and as they were left
 abbrev pub Claims : Plain → List ℕ → List ℕ → ℕ → (l l' r r' c c' : List ℕ) → RunAndPruned → Type 0

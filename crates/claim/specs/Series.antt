@@ -60,8 +60,8 @@ pub record AsCalls (clocks : List ℕ) (p : Plain) : Type 0 where
 -- What prunes at each clock in turn hand back and leave in their two lists: the ledger after the first k and the one after the last, the
 -- reports one prune's after the other's, and the numbers of each single prune. Both lists keep their words beyond that.
 pub record Series (k : ℕ) (clocks : List ℕ) (p : Plain) (lent list lent_counts counts : List ℕ) (r : PrunedAll) : Type 0 where
-  pub held : Held r.ledger
-  pub left : contents r.ledger ≡ prunes clocks p
+  pub held : Held r.after
+  pub left : contents r.after ≡ prunes clocks p
   pub held_between : Held r.between
   pub left_between : contents r.between ≡ prunes (take k clocks) p
   pub told : list ≡ written (concat_map report_words (all_reports clocks p)) lent

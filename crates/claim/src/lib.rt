@@ -12,19 +12,14 @@ ghost use Rattle.claim.specs.Claim.{Claims};
 use calls::making::new;
 use ledger::Ledger;
 use running::run_calls;
-use series::{may_prune, prune_all};
+use series::{PrunedAll, may_prune, prune_all};
 use types::Shard;
 
-// Whether the prunes were made; how many fell and how many reports were written in all; the ledger before the prunes, after the first of them
-// that the caller asked for, and after the last.
+// The ledger before the prunes, and what the prunes made of it, where they may be made.
 #[derive(Clone, Copy)]
 pub struct RunAndPruned {
-    pub made: bool,
-    pub fallen: u64,
-    pub written: usize,
     pub before: Ledger,
-    pub between: Ledger,
-    pub after: Ledger,
+    pub pruned: Option<PrunedAll>,
 }
 
 // The claim from any ledger that a call handed back.
@@ -43,26 +38,11 @@ pub fn run_and_prune_from(
 {
     let before = run_calls(start, calls, lent);
     if !may_prune(clocks, reports.len(), counts.len()) {
-        return RunAndPruned {
-            made: false,
-            fallen: 0,
-            written: 0,
-            before,
-            between: before,
-            after: before,
-        };
+        let pruned = None;
+        return RunAndPruned { before, pruned };
     }
-    let p = prune_all(before, clocks, k, reports, counts);
-    let between = p.between;
-    let after = p.ledger;
-    RunAndPruned {
-        made: true,
-        fallen: p.fallen,
-        written: p.written,
-        before,
-        between,
-        after,
-    }
+    let pruned = Some(prune_all(before, clocks, k, reports, counts));
+    RunAndPruned { before, pruned }
 }
 
 // The claim: a making, every list of calls, and then every list of clocks.

@@ -19,7 +19,8 @@ pub fn run_calls(start: Ledger, calls: &[u64], lent: &mut [u64]) -> Ledger
     ensures { Ran (decode (length lent.old) calls.now) (contents start) lent.old lent.new result }
 {
     let mut ledger = start;
-    let mut at = 0; // moved on by the words of each call
+    let mut at = 0;
+    // A `while`, since the place goes on by the words that each call takes.
     while at < calls.len() {
         let kind = word_at(calls, at);
         let room = at_most(word_at(calls, at + 1), lent.len());

@@ -12,17 +12,17 @@ use types::widths::{REPORT_WORDS, REPORTS_ROOM};
 use types::{Time, is_time};
 
 // Whether the clocks are times and never fall.
+#[tactic(auto, using(crate::proofs::Clocks::steady_sorted, crate::proofs::Clocks::steady_not))]
 fn is_nondecreasing(clocks: &[u64]) -> bool
     ensures { result ≡ steady 0 clocks.now }
 {
-    let mut last = 0;
-    for clock in clocks {
-        if *clock < last || !is_time(*clock) {
-            return false;
-        }
-        last = *clock;
-    }
-    true
+    clocks.is_sorted() && are_times(clocks)
+}
+
+fn are_times(clocks: &[u64]) -> bool
+    ensures { result ≡ all is_time clocks.now }
+{
+    clocks.iter().all(|clock| is_time(*clock))
 }
 
 // Whether there is room for a report of each of the 48 entries, and for two numbers of each of so many prunes.
@@ -39,13 +39,13 @@ pub fn may_prune(clocks: &[u64], reports: usize, counts: usize) -> bool
     is_nondecreasing(clocks) && has_room(clocks.len(), reports, counts)
 }
 
-// How many fell and how many reports were written in all, the ledger after the first prunes that the caller asked for, and the last one's.
+// How many fell and how many reports were written in all, the ledger after the first prunes that the caller asked for, and after the last.
 #[derive(Clone, Copy)]
 pub struct PrunedAll {
     pub fallen: u64,
     pub written: usize,
     pub between: Ledger,
-    pub ledger: Ledger,
+    pub after: Ledger,
 }
 
 // A prune at each clock in turn, the reports one prune's after the other's, and the numbers of each prune. The ledger after the first k is
@@ -85,6 +85,6 @@ pub fn prune_all(
         fallen,
         written,
         between,
-        ledger,
+        after: ledger,
     }
 }

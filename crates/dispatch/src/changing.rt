@@ -27,7 +27,8 @@ fn refill(lent: &mut [u64], word: u64, is_further: bool)
 
 // The call of a kind, so many times, each on the ledger that the last handed back and on the list filled anew. Words that are missing count
 // as 0, and a call that takes no list leaves the lent one as it is. The turns are made here, since a function around this one would copy the
-// ledger twice more a call.
+// ledger twice more a call. A kind is a number and no enum: it is a word of the claim's list of calls, any word is taken, and the order is
+// that of script's table.
 pub fn apply(
     ledger: Ledger,
     kind: u64,

@@ -16,7 +16,9 @@ use shard_lists::{claimants, counterparts, reach, unstamped_departures};
 use types::refusal::Refusal;
 use types::{RecordKey, Shard, Time, Transaction};
 
-// The reading of a kind. Words that are missing count as 0, and a reading that takes no list leaves the lent one as it is.
+// The reading of a kind. Words that are missing count as 0, and a reading that takes no list leaves the lent one as it is. A kind is a number
+// and no enum, as in `changing`: any word is taken, and the order is that of script's table.
+#[tactic(auto, using(crate::proofs::Lent::beside_reading), unfolding(crate::specs::Reading::reading_of))]
 pub fn ask(ledger: Ledger, kind: u64, words: &[u64], lent: &mut [u64]) -> Result<u64, Refusal>
     requires { Held ledger }
     ensures { Reads (read (reading_of kind words.now (length lent.old)) (contents ledger)) lent.old lent.new result }

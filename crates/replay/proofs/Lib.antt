@@ -1,2 +1,3 @@
 pub mod Replied
+pub mod Sizes
 pub mod Names

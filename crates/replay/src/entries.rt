@@ -39,8 +39,8 @@ fn put_edges<W: Write>(writer: &mut Writer<W>, e: &Entry) {
     let sizes = &e.sizes[..n];
     writer.put_words(&e.ids[..n]);
     writer.put_words(&e.froms[..n]);
-    put_bytes(writer, &e.kinds[..n]);
-    put_bytes(writer, sizes);
+    writer.put_words(&e.kinds[..n]);
+    writer.put_words(sizes);
     writer.put_words(&e.to[..total(sizes)]);
 }
 
@@ -67,21 +67,10 @@ fn put_marks<W: Write>(writer: &mut Writer<W>, e: &Entry) {
     writer.put_words(&e.marks[..e.marks_len as usize]);
 }
 
-// The bytes as words.
-fn put_bytes<W: Write>(writer: &mut Writer<W>, bytes: &[u8]) {
-    for byte in bytes {
-        writer.put_word(u64::from(*byte));
-    }
-}
-
 // How many destinations edges have in all.
 fn total(sizes: &[u8]) -> usize
     requires { (length sizes.now ≤ 8) × (all (λ s. leb s 4) sizes.now ≡ true) }
     ensures { result ≤ 32 }
 {
-    let mut sum = 0;
-    for size in sizes {
-        sum += usize::from(*size);
-    }
-    sum
+    sizes.iter().map(|size| usize::from(*size)).sum()
 }

@@ -13,8 +13,7 @@ use script::{Line, Reader, Writer};
 use types::Shard;
 
 // Line by line to the end of the script, or to a line that is malformed or names a call that is not there. `repeat` says how often the next
-// call is made, where one waits for its call. No script has 2^64 lines. The calls are made here, since a function around them would copy the
-// ledger twice more a line.
+// call is made, where one waits for its call. The calls are made here, since a function around them would copy the ledger twice more a line.
 #[tactic(auto, using(crate::proofs::Replied::changed_held))]
 fn main(rt: HostRuntime) {
     let mut reader = Reader::new(rt.stdin());
@@ -23,6 +22,7 @@ fn main(rt: HostRuntime) {
     let mut lent = [0; 4096];
     let mut ledger = making::new(Shard(0), 0, 0, 0).ledger;
     let mut repeat = None;
+    // Lines are counted for the answer to one that is malformed. Every loop must end, and no script has 2^64 lines.
     for at in 1..=u64::MAX {
         let Some(found) = reader.next_line() else {
             break;
@@ -36,7 +36,7 @@ fn main(rt: HostRuntime) {
             Line::Call(call) => call,
             _ => return replies::stop(&mut writer, at),
         };
-        let code = call.code;
+        let code = call.code.place;
         let times = repeat.take().unwrap_or(1);
         let words = &numbers[..call.count];
         let list = &mut lent[..call.lent];

@@ -33,8 +33,9 @@ pub fn put_reply<W: Write>(
 )
     requires { Held ledger.now }
 {
-    put_answers(writer, call.code, reply);
-    if call.code == codes::DUMP {
+    let code = call.code.place;
+    put_answers(writer, code, reply);
+    if code == codes::DUMP {
         dump::put_ledger(writer, ledger);
     }
     put_list(writer, call, list);

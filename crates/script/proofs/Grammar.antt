@@ -9,10 +9,9 @@ use native.Mathlib.Numerals.{add-one}
 use lib.Dec.{eqb, ltb, leb}
 use lib.ListN.{length, take, drop, set, drop_of_length-le}
 use lib.Seq.{drop-cons, drop-drop, take-suc-set}
-use borrow.Author.Tests.{leb-true, ltb-true, ltb-false, lt-ltb, le-ltb}
+use borrow.Author.Tests.{leb-true, ltb-true, lt-ltb, le-ltb}
 use Rattle.std.specs.Prelude.{◌==◌, Option, Some, None, IfSome}
-use Rattle.std.specs.List.{position, position_or_len}
-use Rattle.std.specs.Option.{unwrap_or}
+use Rattle.std.specs.List.{position_or_len}
 use Rattle.std.proofs.lemmas.List.Recursion.{is_position_or_len}
 use Rattle.std.proofs.lemmas.List.Sums.{prefix_len-le-length}
 use Rattle.std.proofs.lemmas.Option.{IfSome_then}
@@ -29,15 +28,8 @@ pub up_to_place : (byte : ℕ) (l : List ℕ) → up_to byte l ≡ position_or_l
 unfolding up_to
 up_to_place byte l = is_position_or_len (up_to byte) (λ b. b == byte) refl (λ x xs. ap (λ n. cond (x == byte) 0 n) (one_more (up_to byte xs))) l
 
-pub up_to_found : (byte : ℕ) (l : List ℕ) (r : Option ℕ) → r ≡ position (λ b. b == byte) l → (unwrap_or r (length l) ≤ length l) × (unwrap_or r (length l) ≡ up_to byte l)
-up_to_found byte l r e = rw (e, up_to_place byte l) (either (position_or_len (λ b. b == byte) l) (length l) (prefix_len-le-length _ l))
-  where
-    either : (k n : ℕ) → k ≤ n → (unwrap_or (cond (ltb k n) (Some k) None) n ≤ n) × (unwrap_or (cond (ltb k n) (Some k) None) n ≡ k)
-    either k n h = pick (ltb k n) refl
-      where
-        pick : (t : Bool) → t ≡ ltb k n → (unwrap_or (cond t (Some k) None) n ≤ n) × (unwrap_or (cond t (Some k) None) n ≡ k)
-        pick true e = (h, refl)
-        pick false e = (omega arith, omega (arith, ltb-false k n (sym e)))
+pub up_to_counted : (byte : ℕ) (l : List ℕ) (r : ℕ) → r ≡ position_or_len (λ b. b == byte) l → (r ≤ length l) × (r ≡ up_to byte l)
+up_to_counted byte l r e = rw (e, up_to_place byte l) (prefix_len-le-length _ l, refl)
 
 -- a text is its first token and what stands behind it
 pub cut : (l : List ℕ) → tokens l ≡ take (word_length l) l ∷ behind (drop (word_length l) l)

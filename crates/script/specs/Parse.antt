@@ -12,7 +12,7 @@ use Rattle.script.specs.declared.line.Line.TheVariants.{Skip, Repeat, Call, Malf
 abbrev pub Fits : ℕ → Tail → ℕ → Line → Type 0
 Fits code tail first Skip = ⊥
 Fits code tail first (Repeat times) = (code ≡ 0) × (times ≡ first) × (0 < times)
-Fits code tail first (Call call) = (call.code ≡ code) × (call.count ≡ tail.count) × (call.lent ≡ cond (takes_list code) (unwrap_or tail.lent 0) 0)
+Fits code tail first (Call call) = (call.code.place ≡ code) × (call.count ≡ tail.count) × (call.lent ≡ cond (takes_list code) (unwrap_or tail.lent 0) 0)
 Fits code tail first Malformed = ⊥
 
 -- what a line is taken for: skipped just where it is empty or a remark; a call by its name, with the numbers that stand behind it in front of `numbers`, and the
@@ -23,7 +23,7 @@ Says line numbers (Repeat times) =
     (is_remark line ≡ false) × (code_of (take (word_length line) line) ≡ Some 0) × (times ≡ slice_index numbers 0) × (0 < times)
 Says line numbers (Call call) =
     (is_remark line ≡ false)
-    × (code_of (take (word_length line) line) ≡ Some call.code)
+    × (code_of (take (word_length line) line) ≡ Some call.code.place)
     × (take call.count numbers ≡ numbers_of (behind (drop (word_length line) line)))
-    × IfSome (tail_of 0 (behind (drop (word_length line) line))) (λ tail. call.lent ≡ cond (takes_list call.code) (unwrap_or tail.lent 0) 0)
+    × IfSome (tail_of 0 (behind (drop (word_length line) line))) (λ tail. call.lent ≡ cond (takes_list call.code.place) (unwrap_or tail.lent 0) 0)
 Says line numbers Malformed = is_remark line ≡ false

@@ -1,9 +1,10 @@
 // The calls of a script: a row for each, with its name, how many numbers it takes, and whether it takes a list. Its code is its row's place.
 ghost use Rattle.std.specs.Prelude.{◌≡◌, ◌<◌, None, IfSome, map, get_or, position};
+ghost use Rattle.std.specs.Option.{option_map};
 ghost use Rattle.script.specs.Texts.{same_text};
 ghost use Rattle.script.specs.Calls.{codes, count_of, takes_list, code_of};
 
-// Codes of calls that are asked for by name. They stay places in the table, since dispatch numbers its kinds in the table's order.
+// Places of calls that are asked for by name. They stay numbers, since dispatch numbers its kinds in the table's order.
 pub const REPEAT: usize = 0;
 
 pub const NEW: usize = 1;
@@ -23,6 +24,13 @@ pub const PRUNE: usize = 14;
 pub const QUESTIONS: usize = 15;
 
 pub const DUMP: usize = 32;
+
+// A call's place in the table.
+#[derive(Clone, Copy)]
+pub struct Code {
+    pub place: usize,
+    pub ghost known: { place < codes },
+}
 
 // A name; how many numbers the call takes, where not any count will do; how many words an item of its list has, where it takes one.
 #[derive(Clone, Copy)]
@@ -68,40 +76,40 @@ const ROWS: [Row; CODES] = [
 ];
 
 // How many numbers a call takes, where not any count will do.
-pub fn count_of(code: usize) -> Option<usize>
-    requires { code < codes }
-    ensures { result ≡ count_of code }
+#[tactic(auto, unfolding(crate::specs::Calls::count_of))]
+pub fn count_of(code: Code) -> Option<usize>
+    ensures { result ≡ count_of code.place }
 {
     row_of(code, &ROWS).1
 }
 
 // Whether a call takes a list.
-pub fn takes_list(code: usize) -> bool
-    requires { code < codes }
-    ensures { result ≡ takes_list code }
+#[tactic(auto, unfolding(crate::specs::Calls::takes_list))]
+pub fn takes_list(code: Code) -> bool
+    ensures { result ≡ takes_list code.place }
 {
     row_of(code, &ROWS).2.is_some()
 }
 
-fn row_of(code: usize, rows: &[Row; CODES]) -> Row
-    requires { code < codes }
-    ensures count { result.1 ≡ get_or (map (λ row. row.1) rows.now) code None }
-    ensures item { result.2 ≡ get_or (map (λ row. row.2) rows.now) code None }
+fn row_of(code: Code, rows: &[Row; CODES]) -> Row
+    ensures count { result.1 ≡ get_or (map (λ row. row.1) rows.now) code.place None }
+    ensures item { result.2 ≡ get_or (map (λ row. row.2) rows.now) code.place None }
 {
-    rows[code]
+    rows[code.place]
 }
 
 // The code of a name.
-pub fn code_of(name: &[u8]) -> Option<usize>
-    ensures known { IfSome result (λ code. code < codes) }
-    ensures value { result ≡ code_of name.now }
+#[tactic(auto, unfolding(crate::specs::Calls::code_of))]
+pub fn code_of(name: &[u8]) -> Option<Code>
+    ensures { option_map (λ code. code.place) result ≡ code_of name.now }
 {
-    place_of(name, &ROWS)
+    let place = place_of(name, &ROWS)?;
+    Some(Code { place })
 }
 
 // The first row of that name.
 fn place_of(name: &[u8], rows: &[Row; CODES]) -> Option<usize>
-    ensures known { IfSome result (λ code. code < codes) }
+    ensures known { IfSome result (λ place. place < codes) }
     ensures value { result ≡ position (λ row. same_text name.now row.0.now) rows.now }
 {
     rows.iter().position(|row| name == row.0)

@@ -61,6 +61,7 @@ impl<R: Read> Reader<R> {
     fn find(&mut self) -> Option<Result<(usize, usize), TooLong>>
         ensures { IfSome result (λ found. IfOk found (λ place. (place.0 ≤ place.1) × (place.1 ≤ 65536))) }
     {
+        // Every loop must end; a remark may go on as long as the input does, which is not read 2^64 times.
         for _ in 0..u64::MAX {
             let start = self.next;
             let end = first_of(b'\n', &self.buf[..self.filled], start);

@@ -17,6 +17,7 @@ pub fn value_of(token: &[u8]) -> Option<u64>
 }
 
 // A number with one more digit behind it.
+#[tactic(auto, using(crate::proofs::Digits::no_digit, crate::proofs::Digits::too_large, crate::proofs::Digits::added))]
 fn with_digit(value: u64, byte: u8) -> Option<u64>
     ensures { result ≡ valued value (byte ∷ []) }
 {

@@ -4,13 +4,12 @@
 // and is not among the 2,048 numbers. `repeat` has one number from 1 and no lent. To a call that
 // takes no list nothing is lent.
 ghost use Rattle.std.specs.Prelude.{◌≡◌, ◌≤◌, ◌<◌, IsTrue, IfSome, MatchResult, cond, false, length, take, drop};
-ghost use Rattle.script.specs.Texts.{same_text};
-ghost use Rattle.script.specs.Calls.{codes, takes_list, Takes};
-ghost use Rattle.script.specs.Grammar.{behind, tail_of, numbers_of, lent_text, lent_of, lent_number, is_remark, Small};
+ghost use Rattle.script.specs.Calls.{takes_list, Takes};
+ghost use Rattle.script.specs.Grammar.{behind, tail_of, numbers_of, lent_of, lent_number, is_remark, Small};
 ghost use Rattle.script.specs.Parse.{Says, Fits};
 ghost use Rattle.script.specs.declared.line.Line.{Line};
 
-use crate::calls::REPEAT;
+use crate::calls::{Code, REPEAT};
 use crate::line::{Call, Line};
 use crate::lines::TooLong;
 use crate::{calls, numbers, tokens};
@@ -64,14 +63,14 @@ fn call_in(line: &[u8], numbers: &mut [u64; 2048]) -> Option<Line>
 }
 
 // A call with what stands behind its name, where the two fit.
-fn checked(code: usize, tail: Tail, first: u64) -> Option<Line>
-    requires { (code < codes) × Small tail }
-    ensures { IfSome result (Fits code tail first) }
+fn checked(code: Code, tail: Tail, first: u64) -> Option<Line>
+    requires { Small tail }
+    ensures { IfSome result (Fits code.place tail first) }
 {
     if !takes(code, tail.count) {
         return None;
     }
-    if code == REPEAT {
+    if code.place == REPEAT {
         return repeat(tail, first);
     }
     Some(Line::Call(call(code, tail.count, tail.lent.unwrap_or(0))))
@@ -88,17 +87,16 @@ fn repeat(tail: Tail, first: u64) -> Option<Line>
 }
 
 // Whether a call takes so many numbers.
-fn takes(code: usize, count: usize) -> bool
-    requires { code < codes }
-    ensures { IsTrue result → Takes code count }
+fn takes(code: Code, count: usize) -> bool
+    ensures { IsTrue result → Takes code.place count }
 {
     calls::count_of(code).is_none_or(|own| own == count)
 }
 
 // A call, lent nothing where it takes no list.
-fn call(code: usize, count: usize, lent: usize) -> Call
-    requires { (0 < code) × (code < codes) × (count ≤ 2048) × (lent ≤ 4096) × Takes code count }
-    ensures { (result.code ≡ code) × (result.count ≡ count) × (result.lent ≡ cond (takes_list code) lent 0) }
+fn call(code: Code, count: usize, lent: usize) -> Call
+    requires { (0 < code.place) × (count ≤ 2048) × (lent ≤ 4096) × Takes code.place count }
+    ensures { (result.code ≡ code) × (result.count ≡ count) × (result.lent ≡ cond (takes_list code.place) lent 0) }
 {
     let words = if calls::takes_list(code) { lent } else { 0 };
     Call {
@@ -122,7 +120,8 @@ fn tail_of(line: &[u8], from: usize, numbers: &mut [u64]) -> Option<Tail>
         let begin = at + 1;
         let end = tokens::token_end(line, begin);
         let token = &line[begin..end];
-        if is_lent(token) {
+        let is_lent = token == b"lent".as_slice();
+        if is_lent {
             return with_lent(line, end, count);
         }
         let n = numbers::value_of(token)?;
@@ -134,12 +133,6 @@ fn tail_of(line: &[u8], from: usize, numbers: &mut [u64]) -> Option<Tail>
         at = end;
     }
     Some(Tail { count, lent: None })
-}
-
-fn is_lent(token: &[u8]) -> bool
-    ensures { result ≡ same_text token.now lent_text }
-{
-    token == b"lent".as_slice()
 }
 
 // The lent count, which begins behind the space at `at` and ends the line.

@@ -68,10 +68,10 @@ impl<W: Write> Writer<W> {
         self.put_number(word);
     }
 
-    // Each word behind a space.
-    pub fn put_words(&mut self, words: &[u64]) {
+    // Each number behind a space: words, or bytes.
+    pub fn put_words<T: Copy + Into<u64>>(&mut self, words: &[T]) {
         for word in words {
-            self.put_word(*word);
+            self.put_word((*word).into());
         }
     }
 

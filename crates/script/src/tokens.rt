@@ -1,19 +1,12 @@
 // Tokens of a line: where one ends.
-ghost use Rattle.std.specs.Prelude.{◌≡◌, ◌==◌, ◌+◌, ◌≤◌, length, drop, position};
+ghost use Rattle.std.specs.Prelude.{◌≡◌, ◌+◌, ◌≤◌, length, drop};
 ghost use Rattle.script.specs.Grammar.{up_to, word_length};
-
-// The first place where the byte stands.
-fn place_of(byte: u8, text: &[u8]) -> Option<usize>
-    ensures { result ≡ position (λ b. b == byte) text.now }
-{
-    text.iter().position(|b| *b == byte)
-}
 
 // How many bytes stand before it, or all where it is not there.
 fn before(byte: u8, text: &[u8]) -> usize
     ensures { (result ≤ length text.now) × (result ≡ up_to byte text.now) }
 {
-    place_of(byte, text).unwrap_or(text.len())
+    text.iter().take_while(|b| **b != byte).count()
 }
 
 // The first place from `from` on where the byte stands, or the text's end.

@@ -8,12 +8,12 @@ returns-then-not-may_prune c =
     let a = c.run_calls-before.ensures in
     unpruned _ _ _ _ _ _ _ _ _ a.held a.ledger a.wrote (sym c.if-not-may_prune.ensures)
 
-pub prune_all-p-requires : goal.prune_all-p-requires
-prune_all-p-requires c =
+pub prune_all-requires : goal.prune_all-requires
+prune_all-requires c =
     let m = may _ _ _ (sym c.if-not-may_prune.ensures) in
     (c.run_calls-before.ensures.held, m.times, m.reports, m.counts)
 
 pub returns : goal.returns
 returns c =
     let a = c.run_calls-before.ensures in
-    all-pruned _ _ _ _ _ _ _ _ _ _ _ _ a.held a.ledger a.wrote (sym c.if-not-may_prune.ensures) c.prune_all-p.ensures
+    all-pruned _ _ _ _ _ _ _ _ _ _ _ _ a.held a.ledger a.wrote (sym c.if-not-may_prune.ensures) c.prune_all.ensures

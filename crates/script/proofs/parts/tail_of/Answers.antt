@@ -1,6 +1,7 @@
 -- `script::parts::tail_of`: A token more, the lent count, and the end of the line are a law each.
 -- Assumes nothing.
-use Rattle.std.proofs.Common.{arith, ◌∙◌, sym, refl}
+use Rattle.std.proofs.Common.{arith, ◌∙◌, ap, sym, refl}
+use Rattle.script.specs.Texts.{same_text}
 use Rattle.script.proofs.Grammar.{tail_small, tail_lent, numbers-lent, tail_number, numbers_number, tail_not, tail_many, tail_end, numbers-end, small_of, stored_number, all_stored, lent_stored}
 use Rattle.script.proofs.parts.tail_of.Goals as goal
 
@@ -9,7 +10,7 @@ loop-at-init c = record { within = omega arith; few = omega arith; tail = refl; 
 
 pub returns-then-is_lent : goal.returns-then-is_lent
 returns-then-is_lent c =
-    let s = sym c.if-is_lent.true ∙ c.is_lent.ensures in
+    let s = sym c.if-is_lent.true ∙ (c.eq-is_lent.ensures ∙ ap (same_text _) c.as_slice.ensures) in
     let q = c.with_lent.ensures ∙ sym (tail_lent _ _ _ c.loop-at-test.true c.token_end-end.ensures.2 _ s) ∙ c.loop-at.invariant.tail in
     record {
       count_bound = small_of _ _ q (tail_small 0 _ (omega arith));
@@ -19,15 +20,15 @@ returns-then-is_lent c =
 
 pub returns-in_err-n-clause-value : goal.returns-in_err-n-clause-value
 returns-in_err-n-clause-value c =
-    c.from_residual.ensures ∙ sym (tail_not _ _ _ c.loop-at-test.true c.token_end-end.ensures.2 _ (sym c.if-is_lent.false ∙ c.is_lent.ensures) c.in_err-n.ensures) ∙ c.loop-at.invariant.tail
+    c.from_residual.ensures ∙ sym (tail_not _ _ _ c.loop-at-test.true c.token_end-end.ensures.2 _ (sym c.if-is_lent.false ∙ (c.eq-is_lent.ensures ∙ ap (same_text _) c.as_slice.ensures)) c.in_err-n.ensures) ∙ c.loop-at.invariant.tail
 
 pub returns-then-count-ge2048-clause-value : goal.returns-then-count-ge2048-clause-value
 returns-then-count-ge2048-clause-value c =
-    sym (tail_many _ _ _ c.loop-at-test.true c.token_end-end.ensures.2 _ _ (sym c.if-is_lent.false ∙ c.is_lent.ensures) c.in_ok-n.ensures c.if-count-ge2048.true) ∙ c.loop-at.invariant.tail
+    sym (tail_many _ _ _ c.loop-at-test.true c.token_end-end.ensures.2 _ _ (sym c.if-is_lent.false ∙ (c.eq-is_lent.ensures ∙ ap (same_text _) c.as_slice.ensures)) c.in_ok-n.ensures c.if-count-ge2048.true) ∙ c.loop-at.invariant.tail
 
 pub loop-at-preserved : goal.loop-at-preserved
 loop-at-preserved c =
-    let s = sym c.if-is_lent.false ∙ c.is_lent.ensures in
+    let s = sym c.if-is_lent.false ∙ (c.eq-is_lent.ensures ∙ ap (same_text _) c.as_slice.ensures) in
     record {
       within = omega arith;
       few = omega arith;
