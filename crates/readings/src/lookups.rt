@@ -1,15 +1,15 @@
 // Lookups: each answers a number, or yes and no, and no for a transaction that is not owed.
-ghost use Rattle.std.specs.Prelude.{◌≡◌, not, ◌&&◌, [], eqb, ltb, leb, ◌+◌, ◌<◌, ◌^◌};
+ghost use Rattle.std.specs.Prelude.{◌≡◌, ◌&&◌, [], eqb, ltb, leb, ◌+◌, ◌<◌, ◌^◌};
+ghost use Rattle.std.specs.Fn.{FnReturnsAt};
 ghost use Rattle.rules.specs.Numbers.{is_time};
-ghost use Rattle.rules.specs.Plain.{is_core};
-ghost use Rattle.rules.specs.Readings.{read, open_at, answers, abandonment, covered, departed, executed, reaches_beyond, issued_by, local, rebuilt, question, question_refusal};
-ghost use Rattle.entry.specs.Entry.{plain_part, certificate_number};
+ghost use Rattle.rules.specs.Readings.{read, open_at, answers, abandonment_answers, abandonment, covered, departed, executed, reaches_beyond, issued_by, local, rebuilt, question, question_refusal};
+ghost use Rattle.entry.specs.Entry.{plain_entry};
 ghost use Rattle.ledger.specs.Contents.{contents, Held};
-ghost use Rattle.readings.specs.Reads.{Reads};
+ghost use Rattle.readings.specs.Reads.{Reads, LooksUp};
 ghost use Rattle.types.specs.Refusals.{refused_in};
 ghost use Rattle.types.specs.Transactions.{number_of};
 
-use entry::{Certificate, Part};
+use entry::{Certificate, Entry};
 use ledger::Ledger;
 use types::refusal::Refusal;
 use types::{RecordKey, Shard, Time, Transaction, is_shard};
@@ -25,10 +25,27 @@ pub struct Question {
 }
 
 // A core without a certificate by execution, which no record names.
-fn is_abandonable(part: Part, certified: Certificate, departed_by: Shard) -> bool
-    ensures { result ≡ is_core (plain_part part) && ltb (certificate_number certified) 2 && not (ltb 0 departed_by.0) }
+#[tactic(auto, unfolding(entry::specs::Entry::plain_entry))]
+fn is_abandonable(e: &Entry) -> bool
+    ensures { result ≡ abandonment_answers (plain_entry e.now) }
 {
-    part.is_core() && certified < Certificate::ByExecution && departed_by.0 == 0
+    e.part.is_core() && e.certified < Certificate::ByExecution && e.departed_by.0 == 0
+}
+
+// Whether the transaction's entry passes, yes as 1 and no as 0; no for one that is not owed.
+fn look_up<F: Fn(&Entry) -> bool>(
+    ledger: &Ledger,
+    tx: Transaction,
+    passes: F,
+) -> Result<u64, Refusal>
+    requires held { Held ledger.now }
+    requires callable { (e : _) → F.pre passes e }
+    ensures { LooksUp (FnReturnsAt F.Fn passes) (contents ledger.now) (number_of tx) result }
+{
+    let Some(slot) = ledger.roster.slot_of(tx) else {
+        return Ok(0);
+    };
+    Ok(u64::from(passes(&ledger.entries[slot])))
 }
 
 // Whether the entry may be abandoned.
@@ -36,11 +53,7 @@ pub fn abandonment_answers(ledger: Ledger, tx: Transaction) -> Result<u64, Refus
     requires { Held ledger }
     ensures { Reads (read (abandonment (number_of tx)) (contents ledger)) [] [] result }
 {
-    let Some(slot) = ledger.roster.slot_of(tx) else {
-        return Ok(0);
-    };
-    let e = ledger.entries[slot];
-    Ok(u64::from(is_abandonable(e.part, e.certified, e.departed_by)))
+    look_up(&ledger, tx, is_abandonable)
 }
 
 // Whether a record names the entry or it has an absence.
@@ -48,10 +61,7 @@ pub fn is_covered(ledger: Ledger, tx: Transaction) -> Result<u64, Refusal>
     requires { Held ledger }
     ensures { Reads (read (covered (number_of tx)) (contents ledger)) [] [] result }
 {
-    let Some(slot) = ledger.roster.slot_of(tx) else {
-        return Ok(0);
-    };
-    Ok(u64::from(ledger.entries[slot].covered()))
+    look_up(&ledger, tx, |e| e.covered())
 }
 
 // Whether a record names the entry.
@@ -59,16 +69,7 @@ pub fn departed(ledger: Ledger, tx: Transaction) -> Result<u64, Refusal>
     requires { Held ledger }
     ensures { Reads (read (departed (number_of tx)) (contents ledger)) [] [] result }
 {
-    let Some(slot) = ledger.roster.slot_of(tx) else {
-        return Ok(0);
-    };
-    Ok(u64::from(ledger.entries[slot].departed_by.0 > 0))
-}
-
-fn is_executed(certified: Certificate) -> bool
-    ensures { result ≡ eqb (certificate_number certified) 2 }
-{
-    certified == Certificate::ByExecution
+    look_up(&ledger, tx, |e| e.departed_by.0 > 0)
 }
 
 // Whether the entry's certificate is by execution.
@@ -76,10 +77,7 @@ pub fn executed(ledger: Ledger, tx: Transaction) -> Result<u64, Refusal>
     requires { Held ledger }
     ensures { Reads (read (executed (number_of tx)) (contents ledger)) [] [] result }
 {
-    let Some(slot) = ledger.roster.slot_of(tx) else {
-        return Ok(0);
-    };
-    Ok(u64::from(is_executed(ledger.entries[slot].certified)))
+    look_up(&ledger, tx, |e| e.certified == Certificate::ByExecution)
 }
 
 // Whether local does not own some route of the entry.
@@ -87,10 +85,7 @@ pub fn reaches_beyond(ledger: Ledger, tx: Transaction) -> Result<u64, Refusal>
     requires { Held ledger }
     ensures { Reads (read (reaches_beyond (number_of tx)) (contents ledger)) [] [] result }
 {
-    let Some(slot) = ledger.roster.slot_of(tx) else {
-        return Ok(0);
-    };
-    Ok(u64::from(ledger.entries[slot].reaches_beyond(ledger.local)))
+    look_up(&ledger, tx, |e| e.reaches_beyond(ledger.local))
 }
 
 // Whether the index names the transaction under the record.
