@@ -214,6 +214,14 @@ module _ {B : Type 0} (d x : B) (a : List B) where
 
 -- keeping by flags
 module _ {A : Type 0} where
+  -- one more flag keeps the item that it stands for, or does not
+  pub keep_by-more : (fs : List Bool) (b : Bool) (l : List A) (d : A) → length fs < length l → keep_by (fs ++ b ∷ []) l ≡ keep_by fs l ++ cons_if b (get_or l (length fs) d) []
+  keep_by-more [] b [] d h = absurd (omega arith)
+  keep_by-more [] b (x ∷ l) d h = refl
+  keep_by-more (c ∷ fs) b [] d h = absurd (omega arith)
+  keep_by-more (true ∷ fs) b (x ∷ l) d h = ap (λ m. x ∷ m) (keep_by-more fs b l d (omega arith))
+  keep_by-more (false ∷ fs) b (x ∷ l) d h = keep_by-more fs b l d (omega arith)
+
   pub keep_by_test : (p : A → Bool) (l : List A) → keep_by (map p l) l ≡ keep p l
   keep_by_test p [] = refl
   keep_by_test p (x ∷ l) = ap (cons_if (p x) x) (keep_by_test p l)

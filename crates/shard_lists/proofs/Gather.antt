@@ -60,12 +60,6 @@ pub record Written (room : ℕ) (whole rest items : List ℕ) (n : ℕ) : Type 0
 pub unwritten : (room : ℕ) (whole a : List ℕ) → length a ≡ room → Written room whole whole a 0
 unwritten room whole a h = record { size = h; same = refl }
 
-pub begun_empty : (whole : List ℕ) (s : Set) → Holds [] s → Written 40 whole whole s.items s.len
-begun_empty whole s h = record { size = s.size; same = ap (λ l. l ++ whole) h.holds }
-
-pub empty_len : (s : Set) → Holds [] s → s.len ≡ 0
-empty_len s h = sym (front_length s) ∙ ap length h.holds
-
 pub left_out : {room : ℕ} {whole items : List ℕ} {n : ℕ} (old new : List ℕ) → old ≡ new → Written room whole old items n → Written room whole new items n
 left_out {room} {whole} {items} {n} old new e h = record { size = h.size; same = ap (λ l. take n items ++ l) (sym e) ∙ h.same }
 

@@ -1,81 +1,113 @@
--- The departures still to come at a turn: one more, or none; and what of their shards is then still to be written.
+-- The shards of the departures that pass a test, gathered one by one.
 -- Assumes nothing.
 use Prim.Native.Nat.{ℕ, ◌+◌, ◌≤◌, ◌<◌}
 use mathlib.Core.Path.{◌≡◌, refl, sym, ap, ◌∙◌}
 use mathlib.Core.Bool.{Bool, true, false, not}
-use mathlib.Core.List.{List, [], ◌∷◌, map}
+use mathlib.Core.List.{List, [], ◌∷◌, ◌++◌, append-nil, map}
 use native.Mathlib.Omega.{arith}
-use lib.ListN.{take, drop, get_or, drop_of_length-le}
-use lib.Seq.{get_or-take}
-use Rattle.lists.specs.Lists.{keep, Every, Ascending, self}
-use Rattle.lists.proofs.Loops.{rest-cons}
-use Rattle.lists.proofs.Order.{ascending-keep, ascending-map}
-use Rattle.lists.proofs.Parts.{every_drop}
+use lib.ListN.{length, take, get_or, get_or-map, set, length-set, length-append}
+use lib.Seq.{take_all}
+use Rattle.std.proofs.lemmas.List.{take_more, take_more_set, map-append}
+use Rattle.lists.specs.Lists.{Ascending, self, keep_by, cons_if}
+use Rattle.lists.proofs.Distinct.{keep_by-more, keep_by_test}
+use Rattle.lists.proofs.Order.{ascending-map}
 use Rattle.rules.specs.Plain as plain
 use Rattle.rules.specs.Plain.{shard_of}
-use Rattle.rules.specs.Good.{GoodDeparture}
 use Rattle.store.specs.declared.departures.Departure.{Departure}
 use Rattle.store.specs.declared.departures.Departures.{Departures}
 use Rattle.std.specs.Prelude.{Option, Some, None, is_some}
 use Rattle.types.specs.declared.Time.{Time}
 use Rattle.rules.specs.Readings.{is_unstamped}
 use Rattle.store.specs.Departures.{plain_departure, stamp_of, on_file}
-use Rattle.store.proofs.Filed.{all, all-front, all-length, all-at, file-length}
-use Rattle.shard_lists.specs.Sets.{lacks_stamp, unstamped_on}
-use Rattle.shard_lists.proofs.Gather.{Written, written_out}
+use Rattle.store.proofs.Filed.{file-length}
+use Rattle.store.proofs.Kept.{kept_rises}
+use Rattle.shard_lists.specs.declared.set.Set.{Set}
+use Rattle.shard_lists.specs.Sets.{Holds, shards_of}
+use Rattle.shard_lists.proofs.Gather.{front_length}
 
-module _ (x : Departures) where
+-- Says is what is said of a departure that is asked about; what was said of the first i is flags, and the shards of those whose flag is up stand
+-- in front. They rise as the departures do, whichever they are, and are those that pass any test that what is said is.
+module _ (Says : Departure → Bool → Type 0) (x : Departures) where
+  abbrev pub Is : (plain.Departure → Bool) → Type 0
+  Is p = (d : Departure) (b : Bool) → Says d b → b ≡ p (plain_departure d)
+
+  pub record Picked (i : ℕ) (items : List ℕ) (n : ℕ) : Type 0 where
+    pub flags : List Bool
+    pub long : length flags ≡ i
+    pub few : n ≤ i
+    pub size : length items ≡ 40
+    pub front : take n items ≡ map shard_of (keep_by flags (on_file x))
+    pub by : (p : plain.Departure → Bool) → Is p → flags ≡ map p (take i (on_file x))
+
+  pub none-picked : (s : Set) → Holds [] s → Picked 0 s.items s.len
+  none-picked s h =
+      record { flags = []; long = refl; few = omega (arith, front_length s, ap length h.holds); size = s.size; front = h.holds; by = λ p q. refl }
+
   -- the one at a place
   abbrev at : Departure → ℕ → Departure
   at d i = get_or (take x.len x.items) i d
 
-  file-cons : (d : Departure) (i : ℕ) → i < x.len → drop i (on_file x) ≡ plain_departure (at d i) ∷ drop (i + 1) (on_file x)
-  file-cons d i k =
-      ap (drop i) (sym (all-front x))
-      ∙ rest-cons (plain_departure d) (all x) i x.len k (omega (arith, all-length x, x.room))
-      ∙ rw (all-at x i d, all-front x) (ap (λ y. plain_departure y ∷ drop (i + 1) (on_file x)) (sym (get_or-take x.len x.items i d k)))
+  module _ (d : Departure) (i n : ℕ) (items : List ℕ) (b : Bool) (k : i < x.len) (s : Says (at d i) b) (q : Picked i items n) where
+    abbrev flags : List Bool
+    flags = q.flags ++ b ∷ []
 
-  file-end : (i : ℕ) → x.len ≤ i → drop i (on_file x) ≡ []
-  file-end i k = drop_of_length-le (on_file x) {i = i} (omega (arith, file-length x))
+    one : plain.Departure
+    one = plain_departure (at d i)
 
-  pub file-good : (d : Departure) (i : ℕ) → i < x.len → Every GoodDeparture (on_file x) → GoodDeparture (plain_departure (at d i))
-  file-good d i k v = (rw (file-cons d i k) at (every_drop GoodDeparture i (on_file x) v)).0
+    one-is : get_or (on_file x) i (plain_departure d) ≡ plain_departure (at d i)
+    one-is = get_or-map plain_departure (take x.len x.items) i d
 
-  -- the shards of those that pass a test, which rise as the departures do
+    within : i < length (on_file x)
+    within = omega (arith, file-length x)
 
-  module _ (p : plain.Departure → Bool) where
-    abbrev pub shards_of : List plain.Departure → List ℕ
-    shards_of ds = map shard_of (keep p ds)
+    said : (p : plain.Departure → Bool) → Is p → flags ≡ map p (take (i + 1) (on_file x))
+    said p h =
+        ap (λ l. l ++ b ∷ []) (q.by p h)
+        ∙ ap (λ c. map p (take i (on_file x)) ++ c ∷ []) (h (at d i) b s ∙ ap p (sym one-is))
+        ∙ sym (map-append p (take i (on_file x)) (get_or (on_file x) i (plain_departure d) ∷ []))
+        ∙ ap (map p) (sym (take_more (on_file x) i (plain_departure d) within))
 
-    pub pick : (d : Departure) (i : ℕ) → i < x.len → p (plain_departure (at d i)) ≡ true →
-        shards_of (drop i (on_file x)) ≡ (at d i).shard.0 ∷ shards_of (drop (i + 1) (on_file x))
-    pick d i k t = rw (file-cons d i k, t)
+    long : length flags ≡ i + 1
+    long = length-append q.flags (b ∷ []) ∙ ap (λ m. m + 1) q.long
 
-    pub pass : (d : Departure) (i : ℕ) → i < x.len → p (plain_departure (at d i)) ≡ false →
-        shards_of (drop i (on_file x)) ≡ shards_of (drop (i + 1) (on_file x))
-    pass d i k t = rw (file-cons d i k, t)
+    kept : keep_by flags (on_file x) ≡ keep_by q.flags (on_file x) ++ cons_if b (plain_departure (at d i)) []
+    kept =
+        keep_by-more q.flags b (on_file x) (plain_departure d) (omega (arith, q.long, within))
+        ∙ ap (λ j. keep_by q.flags (on_file x) ++ cons_if b (get_or (on_file x) j (plain_departure d)) []) q.long
+        ∙ ap (λ e. keep_by q.flags (on_file x) ++ cons_if b e []) one-is
 
-    pub all_picked : {items : List ℕ} {n : ℕ} (i : ℕ) → x.len ≤ i → Written 40 (shards_of (on_file x)) (shards_of (drop i (on_file x))) items n →
-        take n items ≡ shards_of (on_file x)
-    all_picked i k w = written_out (shards_of (drop i (on_file x))) (ap shards_of (file-end i k)) w
+    pub passed-by : b ≡ false → Picked (i + 1) items n
+    passed-by t =
+        record {
+          flags = flags; long = long; few = omega (arith, q.few); size = q.size;
+          front = q.front ∙ ap (map shard_of) (sym (append-nil (keep_by q.flags (on_file x)))) ∙ ap (λ c. map shard_of (keep_by q.flags (on_file x) ++ cons_if c (plain_departure (at d i)) [])) (sym t) ∙ ap (map shard_of) (sym kept);
+          by = said;
+        }
 
-    pub picked_rise : {items : List ℕ} {n : ℕ} (i : ℕ) → x.len ≤ i → Written 40 (shards_of (on_file x)) (shards_of (drop i (on_file x))) items n →
-        Ascending self (take n items)
-    picked_rise i k w =
-        rw (all_picked i k w) (ascending-map shard_of self shard_of (λ d. refl) (keep p (on_file x)) (ascending-keep shard_of p (on_file x) x.rising))
+    pub picked : b ≡ true → Picked (i + 1) (set items n (at d i).shard.0) (n + 1)
+    picked t =
+        record {
+          flags = flags; long = long; few = omega (arith, q.few); size = length-set items n (at d i).shard.0 ∙ q.size;
+          front =
+              take_more_set items n (at d i).shard.0 (omega (arith, q.few, q.size, x.room))
+              ∙ ap (λ l. l ++ (at d i).shard.0 ∷ []) q.front
+              ∙ sym (map-append shard_of (keep_by q.flags (on_file x)) (plain_departure (at d i) ∷ []))
+              ∙ ap (λ c. map shard_of (keep_by q.flags (on_file x) ++ cons_if c (plain_departure (at d i)) [])) (sym t) ∙ ap (map shard_of) (sym kept);
+          by = said;
+        }
 
-  -- those without a stamp
+  module _ (i n : ℕ) (items : List ℕ) (k : x.len ≤ i) (q : Picked i items n) where
+    pub all-picked : (p : plain.Departure → Bool) → Is p → take n items ≡ shards_of p (on_file x)
+    all-picked p h =
+        q.front ∙ ap (λ fs. map shard_of (keep_by fs (on_file x))) (q.by p h ∙ ap (map p) (take_all i (on_file x) (omega (arith, file-length x))))
+        ∙ ap (map shard_of) (keep_by_test p (on_file x))
 
-  lacking : (s : Option Time) (b : Bool) → is_some s ≡ not b → is_unstamped (stamp_of s) ≡ b
-  lacking None true e = refl
-  lacking None false e = sym e
-  lacking (Some t) true e = sym e
-  lacking (Some t) false e = refl
+    pub picked-rise : Ascending self (take n items)
+    picked-rise = rw q.front (ascending-map shard_of self shard_of (λ d. refl) (keep_by q.flags (on_file x)) (kept_rises shard_of q.flags (on_file x) x.rising))
 
-  pub stamped_out : (d : Departure) (i : ℕ) (b : Bool) → i < x.len → is_some (at d i).until ≡ not b → b ≡ false →
-      unstamped_on (drop i (on_file x)) ≡ unstamped_on (drop (i + 1) (on_file x))
-  stamped_out d i b k e t = pass lacks_stamp d i k (lacking (at d i).until b e ∙ t)
-
-  pub unstamped_in : (d : Departure) (i : ℕ) (b : Bool) → i < x.len → is_some (at d i).until ≡ not b → b ≡ true →
-      unstamped_on (drop i (on_file x)) ≡ (at d i).shard.0 ∷ unstamped_on (drop (i + 1) (on_file x))
-  unstamped_in d i b k e t = pick lacks_stamp d i k (lacking (at d i).until b e ∙ t)
+-- a departure without a stamp, as the rules have it
+pub lacking : (s : Option Time) (b : Bool) → is_some s ≡ not b → b ≡ is_unstamped (stamp_of s)
+lacking None true e = refl
+lacking None false e = e
+lacking (Some t) true e = e
+lacking (Some t) false e = refl

@@ -4,18 +4,19 @@
 
 pub mod set;
 
+ghost use Rattle.std.specs.Fn.{FnReturnsAt};
 ghost use Rattle.std.specs.Prelude.{◌≡◌, true, map, ◌≤◌, leb, length};
 ghost use Rattle.lists.specs.Lists.{keep, any, include_all, self};
-ghost use Rattle.rules.specs.Numbers.{is_shard, owns, shard_for_route};
+ghost use Rattle.rules.specs.Numbers.{owns, shard_for_route};
 ghost use Rattle.rules.specs.Plain.{is_remote};
 ghost use Rattle.rules.specs.Readings as rules;
 ghost use Rattle.rules.specs.Readings.{read, claimants_of};
 ghost use Rattle.entry.specs.Entry.{plain_entry};
 ghost use Rattle.store.specs.Departures as departures;
-ghost use Rattle.store.specs.Departures.{on_file, plain_departure};
+ghost use Rattle.store.specs.Departures.{plain_departure};
 ghost use Rattle.ledger.specs.Contents.{contents, Held};
 ghost use Rattle.readings.specs.Reads.{Reads};
-ghost use Rattle.shard_lists.specs.Sets.{front, Holds, Eight, Filed, is_over_some, departed_over, unstamped_on, counterparts_at};
+ghost use Rattle.shard_lists.specs.Sets.{front, Holds, Gathers, Eight, is_over_some, counterparts_at};
 ghost use Rattle.types.specs.Transactions.{number_of};
 
 use entry::{Entry, is_issue};
@@ -27,13 +28,16 @@ use store::departures::{Departure, Departures};
 use types::refusal::Refusal;
 use types::{RecordKey, Shard, Time, Transaction, shard_for_route};
 
-// The shards whose departures have no stamp. They rise as the departures do, so that each is put behind the last.
-fn unstamped(filed: Departures) -> Set
-    ensures { Holds (unstamped_on (on_file filed)) result }
+// The shards of the departures that pass. They rise as the departures do, so that each is put behind the last.
+fn shards_of<F: Fn(&Departure) -> bool>(on_file: Departures, passes: F) -> Set
+    requires { (d : _) → F.pre passes d }
+    ensures gathered { Gathers (FnReturnsAt F.Fn passes) on_file result }
+    ensures few { result.len ≤ 32 }
 {
     let mut shards = Set::new();
-    for d in &filed.items[..filed.len] {
-        if d.until.is_none() {
+    let len = on_file.len;
+    for d in &on_file.items[..len] {
+        if passes(d) {
             shards.items[shards.len] = d.shard.0;
             shards.len += 1;
         }
@@ -41,12 +45,13 @@ fn unstamped(filed: Departures) -> Set
     shards
 }
 
+// The shards whose departures have no stamp.
 pub fn unstamped_departures(ledger: Ledger, lent: &mut [u64]) -> Result<u64, Refusal>
     requires { Held ledger }
     ensures { Reads (read (rules.list_unstamped (length lent.old)) (contents ledger)) lent.old lent.new result }
 {
-    let shards = unstamped(ledger.departures);
-    list(&shards.items, shards.len, shards.len, lent)
+    let shards = shards_of(ledger.departures, |d| d.until.is_none());
+    list(&shards.items[..shards.len], shards.len, lent)
 }
 
 pub fn reach(ledger: Ledger, tx: Transaction, lent: &mut [u64]) -> Result<u64, Refusal>
@@ -58,7 +63,7 @@ pub fn reach(ledger: Ledger, tx: Transaction, lent: &mut [u64]) -> Result<u64, R
     };
     let e = ledger.entries[slot];
     let n = e.routes_len as usize;
-    list(&e.routes, n, n, lent)
+    list(&e.routes[..n], n, lent)
 }
 
 // The destinations of the entry's edges from local with this key.
@@ -90,12 +95,12 @@ pub fn claimants(
         return Ok(0);
     };
     let shards = destinations(ledger.entries[slot], ledger.local, r);
-    list(&shards.items, shards.len, shards.len, lent)
+    list(&shards.items[..shards.len], shards.len, lent)
 }
 
 // The routes that local does not own, put into the front of a lent array; how many there are.
 fn remote(routes: &[u64], local: Shard, far: &mut [u64; 8]) -> usize
-    requires { (length routes.now ≤ 8) × (is_shard local.0 ≡ true) × (length far.old ≡ 8) }
+    requires { (length routes.now ≤ 8) × (length far.old ≡ 8) }
     ensures { Eight (keep (is_remote local.0) routes.now) far.new result }
 {
     let mut m = 0;
@@ -110,7 +115,6 @@ fn remote(routes: &[u64], local: Shard, far: &mut [u64; 8]) -> usize
 
 // Whether the shard owns one of the routes.
 fn owns_some(shard: Shard, far: &[u64]) -> bool
-    requires { is_shard shard.0 ≡ true }
     ensures { result ≡ any (owns shard.0) far.now }
 {
     far.iter().any(|route| shard.owns(*route))
@@ -118,26 +122,9 @@ fn owns_some(shard: Shard, far: &[u64]) -> bool
 
 // Whether a departure is over one of the routes of an entry with this anchor. The cut is the same for all of them.
 fn is_over(d: Departure, anchor: Time, far: &[u64]) -> bool
-    requires { is_shard d.shard.0 ≡ true }
     ensures { result ≡ is_over_some anchor.0 far.now (plain_departure d) }
 {
     anchor < d.cut && owns_some(d.shard, far)
-}
-
-// The shards whose departure is over one of the routes. They rise as the departures do, so that each is put behind the last.
-fn departed(on_file: Departures, anchor: Time, far: &[u64]) -> Set
-    requires { Filed on_file }
-    ensures { Holds (departed_over anchor.0 far.now (departures.on_file on_file)) result × (result.len ≤ 32) }
-{
-    let mut shards = Set::new();
-    let len = on_file.len;
-    for d in &on_file.items[..len] {
-        if is_over(*d, anchor, far) {
-            shards.items[shards.len] = d.shard.0;
-            shards.len += 1;
-        }
-    }
-    shards
 }
 
 // The trie's shards of the routes put into a set.
@@ -153,12 +140,12 @@ fn put_trie(shards: &mut Set, far: &[u64], d: u32)
 // For the remote routes the trie's shards, and those whose departure is over one. Departures are gone through once: each is held against
 // the routes, not each route against them.
 fn beyond(e: Entry, on_file: Departures, local: Shard, d: u32) -> Set
-    requires { Filed on_file × (is_shard local.0 ≡ true) × (leb d 32 ≡ true) }
+    requires { leb d 32 ≡ true }
     ensures { Holds (counterparts_at local.0 (departures.on_file on_file) d (plain_entry e)) result }
 {
     let mut far = [0; 8];
     let n = remote(&e.routes[..e.routes_len as usize], local, &mut far);
-    let mut shards = departed(on_file, e.anchor, &far[..n]);
+    let mut shards = shards_of(on_file, |d| is_over(*d, e.anchor, &far[..n]));
     put_trie(&mut shards, &far[..n], d);
     shards
 }
@@ -185,5 +172,5 @@ pub fn counterparts(
         ledger.local,
         depth as u32,
     );
-    list(&shards.items, shards.len, shards.len, lent)
+    list(&shards.items[..shards.len], shards.len, lent)
 }

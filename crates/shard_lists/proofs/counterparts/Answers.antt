@@ -2,9 +2,8 @@
 -- transaction not owed has none.
 use Rattle.std.proofs.Common.{arith, le-leb}
 use Rattle.types.specs.Transactions.{number_of}
-use Rattle.ledger.specs.Contents.{contents}
 use Rattle.ledger.proofs.Places.{owed_in}
-use Rattle.shard_lists.proofs.Listed.{set_room, no_counterparts, of_counterparts}
+use Rattle.shard_lists.proofs.Listed.{no_counterparts, of_counterparts}
 use Rattle.shard_lists.proofs.counterparts.Goals as goal
 
 pub returns-in_default : goal.returns-in_default
@@ -12,12 +11,7 @@ returns-in_default c =
     no_counterparts c.args.ledger c.requires (number_of c.args.tx) c.args.depth c.args.lent.now (omega arith) (rw c.in_default.is at c.slot_of.ensures)
 
 pub beyond-shards-requires : goal.beyond-shards-requires
-unfolding contents
-beyond-shards-requires c =
-    (c.requires.good.departures.rows.each, c.requires.good.frame.local, le-leb c.args.depth 32 (omega arith))
-
-pub list-requires : goal.list-requires
-list-requires c = set_room c.beyond-shards.result
+beyond-shards-requires c = le-leb c.args.depth 32 (omega arith)
 
 pub returns : goal.returns
 returns c =

@@ -9,7 +9,7 @@ use Rattle.shard_lists.proofs.remote.Goals as goal
 use Rattle.shard_lists.proofs.remote.Goals.{then-not-owns, else-not-owns}
 
 pub loop-route-init : goal.loop-route-init
-loop-route-init c = (omega arith, unwritten _ _ _ c.requires.2)
+loop-route-init c = (omega arith, unwritten _ _ _ c.requires.1)
 
 pub loop-route-preserved : goal.loop-route-preserved
 loop-route-preserved c =
