@@ -165,25 +165,14 @@ pub fn past_deadline(ledger: Ledger, time: Time, lent: &mut [u64]) -> Result<u64
     };
     let mut words = [0; TERMS_ROOM]; // with a count beside: there is no heap
     let n = gather(&ledger, row_of, TERM_WORDS, &mut words);
-    list(&words, TERM_WORDS * n, n, lent)
-}
-
-// Whether an edge is from local and of this very id.
-fn is_crossing(from: Shard, held: u64, local: Shard, id: u64) -> bool
-    ensures { result ≡ eqb from.0 local.0 && eqb held id }
-{
-    from == local && held == id
+    list(&words[..TERM_WORDS * n], n, lent)
 }
 
 // Whether an edge from local has this very id.
 fn issues_id(e: &Entry, local: Shard, id: u64) -> bool
     ensures { result ≡ holds_id local.0 id (plain_entry e.now) }
 {
-    let n = e.edges_len as usize;
-    e.froms[..n]
-        .iter()
-        .zip(&e.ids[..n])
-        .any(|(from, held)| is_crossing(Shard(*from), *held, local, id))
+    e.has_edge(|from, held| from == local && held == id)
 }
 
 // Those that issued this very id. An edge from local that has the id is in the index under the id's key, which is thus not asked.
@@ -194,5 +183,5 @@ pub fn issuers_of(ledger: Ledger, id: u64, lent: &mut [u64]) -> Result<u64, Refu
     let row_of = |e: &Entry| issues_id(e, ledger.local, id).then_some([e.end.0]);
     let mut words = [0; ISSUERS_ROOM]; // with a count beside: there is no heap
     let n = gather(&ledger, row_of, ISSUER_WORDS, &mut words);
-    list(&words, ISSUER_WORDS * n, n, lent)
+    list(&words[..ISSUER_WORDS * n], n, lent)
 }

@@ -42,83 +42,72 @@ use Rattle.store.specs.Leaving.{unnamed_by}
 use Rattle.sweeps.specs.Closing.{listed_by, stays_open, Judges, listed}
 use Rattle.sweeps.proofs.Several.{unnamed_index}
 
--- The entries judged: those before i are, in the arrays; those from i on are still to come.
-pub record Judging (l : Ledger) (stay : List Bool) (codes : List ℕ) (count i : ℕ) : Type 0 where
+-- The entries judged: those before i are, by their flags; those from i on are still to come.
+pub record Judging (l : Ledger) (stay : List Bool) (count i : ℕ) : Type 0 where
   pub high : i ≤ l.roster.len
   pub few : count ≤ i
   pub stay_length : length stay ≡ 48
-  pub codes_length : length codes ≡ 48
   pub flags : take i stay ≡ map (stays_open l.local.0) (take i (entries_of l))
-  pub decisions : take i codes ≡ map closing_decision (take i (entries_of l))
   pub total : count + length (keep (is_closed l.local.0) (drop i (entries_of l))) ≡ length (keep (is_closed l.local.0) (entries_of l))
 
-module _ (l : Ledger) (h : Held l) (stay : List Bool) (codes : List ℕ) (count i : ℕ) (v : Judging l stay codes count i) where
-  module _ (q : i < l.roster.len) (d : Entry) (code : ℕ) where
-    abbrev here : Entry
-    here = lying_at l i d
+module _ (l : Ledger) (h : Held l) (i : ℕ) (q : i < l.roster.len) (d : Entry) where
+  abbrev here : Entry
+  here = lying_at l i d
 
-    cons : drop i (entries_of l) ≡ plain_entry here ∷ drop (i + 1) (entries_of l)
-    cons = (entry_at l h i q).next d
+  cons : drop i (entries_of l) ≡ plain_entry here ∷ drop (i + 1) (entries_of l)
+  cons = (entry_at l h i q).next d
 
-    module _ (k : code ≡ cond here.returned 2 1) where
-      codes_on : take (i + 1) (set codes i code) ≡ map closing_decision (take (i + 1) (entries_of l))
-      unfolding plain_entry
-      codes_on =
-          fill_next closing_decision codes (entries_of l) i (plain_entry here) code (omega (arith, v.codes_length, q, l.roster.room)) (omega (arith, entries-length l h)) cons k v.decisions
+module _ (l : Ledger) (h : Held l) (stay : List Bool) (count i : ℕ) (v : Judging l stay count i) (q : i < l.roster.len) (d : Entry) where
+  stay_on : (b : Bool) → b ≡ not (is_closed l.local.0 (plain_entry (here l h i q d))) → take (i + 1) (set stay i b) ≡ map (stays_open l.local.0) (take (i + 1) (entries_of l))
+  stay_on b e =
+      fill_next (stays_open l.local.0) stay (entries_of l) i (plain_entry (here l h i q d)) b (omega (arith, v.stay_length, q, l.roster.room)) (omega (arith, entries-length l h)) (cons l h i q d) e v.flags
 
-      stay_on : (b : Bool) → b ≡ not (is_closed l.local.0 (plain_entry here)) → take (i + 1) (set stay i b) ≡ map (stays_open l.local.0) (take (i + 1) (entries_of l))
-      stay_on b e =
-          fill_next (stays_open l.local.0) stay (entries_of l) i (plain_entry here) b (omega (arith, v.stay_length, q, l.roster.room)) (omega (arith, entries-length l h)) cons e v.flags
+  pub judge_next : (b : Bool) → b ≡ is_closed l.local.0 (plain_entry (here l h i q d)) → Judging l (set stay i (not b)) (count + from_bool b) (i + 1)
+  judge_next b e =
+      record {
+        high = omega arith;
+        few = omega (arith, v.few, at_most_one b);
+        stay_length = length-set stay i (not b) ∙ v.stay_length;
+        flags = stay_on (not b) (ap not e);
+        total = one_more b (rw (cons l h i q d, sym e) at v.total);
+      }
+    where
+      rest : List plain.Entry
+      rest = keep (is_closed l.local.0) (drop (i + 1) (entries_of l))
 
-      pub judge_next : (b : Bool) → b ≡ is_closed l.local.0 (plain_entry here) → Judging l (set stay i (not b)) (set codes i code) (count + from_bool b) (i + 1)
-      judge_next b e =
-          record {
-            high = omega arith;
-            few = omega (arith, v.few, at_most_one b);
-            stay_length = length-set stay i (not b) ∙ v.stay_length;
-            codes_length = length-set codes i code ∙ v.codes_length;
-            flags = stay_on (not b) (ap not e);
-            decisions = codes_on;
-            total = one_more b (rw (cons, sym e) at v.total);
-          }
-        where
-          rest : List plain.Entry
-          rest = keep (is_closed l.local.0) (drop (i + 1) (entries_of l))
+      at_most_one : (b : Bool) → from_bool b ≤ 1
+      at_most_one true = omega arith
+      at_most_one false = omega arith
 
-          at_most_one : (b : Bool) → from_bool b ≤ 1
-          at_most_one true = omega arith
-          at_most_one false = omega arith
-
-          one_more : (b : Bool) → count + length (cons_if b (plain_entry here) rest) ≡ length (keep (is_closed l.local.0) (entries_of l)) →
-              count + from_bool b + length rest ≡ length (keep (is_closed l.local.0) (entries_of l))
-          one_more true h = omega (arith, h)
-          one_more false h = omega (arith, h)
+      one_more : (b : Bool) → count + length (cons_if b (plain_entry (here l h i q d)) rest) ≡ length (keep (is_closed l.local.0) (entries_of l)) →
+          count + from_bool b + length rest ≡ length (keep (is_closed l.local.0) (entries_of l))
+      one_more true h = omega (arith, h)
+      one_more false h = omega (arith, h)
 
 -- Those listed: what is to come at i.
-abbrev pub listing : List Bool → List ℕ → List ℕ → ℕ → ℕ → List ℕ
-listing stay keys codes n i = listed_by (drop i (take n stay)) (drop i (take n keys)) (drop i (take n codes))
+abbrev pub listing : Ledger → List Bool → ℕ → List ℕ
+listing l stay i = listed_by (drop i (take l.roster.len stay)) (drop i (keys_of l.roster)) (map closing_decision (drop i (entries_of l)))
 
-pub record Listing (keys codes : List ℕ) (stay : List Bool) (n : ℕ) (lent₀ lent : List ℕ) (at i : ℕ) : Type 0 where
-  pub high : i ≤ n
+pub record Listing (l : Ledger) (stay : List Bool) (lent₀ lent : List ℕ) (at i : ℕ) : Type 0 where
+  pub high : i ≤ l.roster.len
   pub small : at ≤ 2 * i
   pub same : length lent ≡ length lent₀
-  pub rest : sets lent at (listing stay keys codes n i) ≡ sets lent₀ 0 (listing stay keys codes n 0)
-  pub size : at + length (listing stay keys codes n i) ≡ length (listing stay keys codes n 0)
+  pub rest : sets lent at (listing l stay i) ≡ sets lent₀ 0 (listed l stay)
+  pub size : at + length (listing l stay i) ≡ length (listed l stay)
 
-module _ (keys codes : List ℕ) (stay : List Bool) (n : ℕ) (lent₀ lent : List ℕ) (at i : ℕ) (v : Listing keys codes stay n lent₀ lent at i)
-    (h₂ : n ≤ length stay) (h₃ : n ≤ length keys) (h₄ : n ≤ length codes) where
-  module _ (h₁ : i < n) where
-    next : listing stay keys codes n i ≡ cond (get_or stay i false) (listing stay keys codes n (i + 1)) (get_or keys i 0 ∷ get_or codes i 0 ∷ listing stay keys codes n (i + 1))
-    next = rw (rest-cons false stay i n h₁ h₂, rest-cons 0 keys i n h₁ h₃, rest-cons 0 codes i n h₁ h₄)
+some_entry : (es : List Entry) → length es ≡ 48 → Entry
+some_entry [] h = absurd (omega arith)
+some_entry (e ∷ es) h = e
 
-    pub list_none : get_or stay i false ≡ true → Listing keys codes stay n lent₀ lent at (i + 1)
-    list_none t =
-        let e : listing stay keys codes n i ≡ listing stay keys codes n (i + 1) = next ∙ rw t in
-        record { high = omega arith; small = omega (arith, v.small); same = v.same; rest = rw e at v.rest; size = rw e at v.size }
+module _ (l : Ledger) (h : Held l) (stay : List Bool) (lent₀ lent : List ℕ) (at i : ℕ) (v : Listing l stay lent₀ lent at i) (k : l.roster.len ≤ length stay) where
+  module _ (q : i < l.roster.len) (d : Entry) where
+    next : listing l stay i ≡ cond (get_or stay i false) (listing l stay (i + 1)) (get_or l.roster.keys i 0 ∷ closing_decision (plain_entry (here l h i q d)) ∷ listing l stay (i + 1))
+    next = rw (rest-cons false stay i l.roster.len q k, rest-cons 0 l.roster.keys i l.roster.len q (omega (arith, l.roster.room, l.roster.lengths.0)), cons l h i q d)
 
-    pub list_one : (put : List ℕ) → get_or stay i false ≡ false → put ≡ set lent at (get_or keys i 0) → Listing keys codes stay n lent₀ (set put (at + 1) (get_or codes i 0)) (at + 2) (i + 1)
-    list_one put t w =
-        let e : listing stay keys codes n i ≡ get_or keys i 0 ∷ get_or codes i 0 ∷ listing stay keys codes n (i + 1) = next ∙ rw t in
+    pub list_one : (code : ℕ) (put : List ℕ) → get_or stay i false ≡ false → put ≡ set lent at (get_or l.roster.keys i 0) → code ≡ closing_decision (plain_entry (here l h i q d)) →
+        Listing l stay lent₀ (set put (at + 1) code) (at + 2) (i + 1)
+    list_one code put t w c =
+        let e : listing l stay i ≡ get_or l.roster.keys i 0 ∷ code ∷ listing l stay (i + 1) = next ∙ rw (t, c) in
         record {
           high = omega arith;
           small = omega (arith, v.small);
@@ -127,10 +116,21 @@ module _ (keys codes : List ℕ) (stay : List Bool) (n : ℕ) (lent₀ lent : Li
           size = omega (arith, rw e at v.size);
         }
 
-  pub list_end : n ≤ i → lent ≡ sets lent₀ 0 (listing stay keys codes n 0)
-  list_end h₁ = rw (rest_end stay i n h₁ h₂) at v.rest
+  pub list_none : i < l.roster.len → get_or stay i false ≡ true → Listing l stay lent₀ lent at (i + 1)
+  list_none q t =
+      let e : listing l stay i ≡ listing l stay (i + 1) = next q (some_entry l.entries l.slots) ∙ rw t in
+      record { high = omega arith; small = omega (arith, v.small); same = v.same; rest = rw e at v.rest; size = rw e at v.size }
 
--- what is written from the front on
+  -- one more line has room
+  pub list_room : i < l.roster.len → get_or stay i false ≡ false → at + 2 ≤ length (listed l stay)
+  list_room q t =
+      let d = some_entry l.entries l.slots in
+      let e : listing l stay i ≡ get_or l.roster.keys i 0 ∷ closing_decision (plain_entry (here l h i q d)) ∷ listing l stay (i + 1) = next q d ∙ rw t in
+      omega (arith, v.size, ap length e)
+
+  pub list_end : l.roster.len ≤ i → lent ≡ sets lent₀ 0 (listed l stay)
+  list_end q = rw (rest_end stay i l.roster.len q k) at v.rest
+
 -- the words of those that close
 listed-closed : (local : ℕ) (es : List plain.Entry) →
     listed_by (map (stays_open local) es) (map transaction_of es) (map closing_decision es) ≡ concat_map close_words (keep (is_closed local) es)
@@ -148,9 +148,9 @@ words-length [] = refl
 words-length (e ∷ es) = omega (arith, words-length es)
 
 module _ (l : Ledger) (h : Held l) (lent : List ℕ) (c : Closing) (j : Judges l c) where
-  words_of : listed l.roster c ≡ concat_map close_words (calls.closed (contents l))
+  words_of : listed l c.stay ≡ concat_map close_words (calls.closed (contents l))
   unfolding contents
-  words_of = rw (j.stay, h.keyed, j.codes) (listed-closed l.local.0 (entries_of l))
+  words_of = rw (j.stay, h.keyed) (listed-closed l.local.0 (entries_of l))
 
   answer_of : c.count ≡ length (calls.closed (contents l))
   unfolding contents
@@ -159,7 +159,7 @@ module _ (l : Ledger) (h : Held l) (lent : List ℕ) (c : Closing) (j : Judges l
   pub count-few : c.count ≤ 48
   count-few = omega (arith, j.count, length-keep (is_closed l.local.0) (entries_of l), entries-length l h, l.roster.room)
 
-  pub listed-length : length (listed l.roster c) ≡ 2 * c.count
+  pub listed-length : length (listed l c.stay) ≡ 2 * c.count
   listed-length = ap length words_of ∙ words-length (calls.closed (contents l)) ∙ ap (λ n. 2 * n) (sym answer_of)
 
   pub closes_short : length lent < 2 * c.count → Meets (after_closes (length lent) (contents l)) lent lent (says_no ListShort l)
@@ -180,7 +180,7 @@ module _ (l : Ledger) (h : Held l) (lent : List ℕ) (c : Closing) (j : Judges l
       (unnamed_index (stays_open l.local.0) l h (take l.roster.len c.stay) x j.stay i)) g z
 
   pub closes-done : 2 * c.count ≤ length lent → (r : Roster) → Retained l.roster (take l.roster.len c.stay) r → (x : Issuers) →
-      issuers.Holds (unnamed_by (take l.roster.len c.stay) (keys_of l.roster) (pairs_in l.issuers)) x → (after : List ℕ) → after ≡ sets lent 0 (listed l.roster c) →
+      issuers.Holds (unnamed_by (take l.roster.len c.stay) (keys_of l.roster) (pairs_in l.issuers)) x → (after : List ℕ) → after ≡ sets lent 0 (listed l c.stay) →
       (z : length l.entries ≡ 48) → Meets (after_closes (length lent) (contents l)) lent after (says c.count (with_parts l l.rebuilt r l.entries x l.departures z))
   unfolding after_closes
   closes-done q r k x i after w z =
@@ -194,6 +194,6 @@ module _ (l : Ledger) (h : Held l) (lent : List ℕ) (c : Closing) (j : Judges l
         refused = refl;
         answers = ap (λ n. n ∷ 0 ∷ 0 ∷ []) answer_of;
         ledger = b.holds;
-        wrote = w ∙ sets_front lent (listed l.roster c) (omega (arith, q, listed-length)) ∙ ap (λ m. m ++ drop (length m) lent) words_of;
+        wrote = w ∙ sets_front lent (listed l c.stay) (omega (arith, q, listed-length)) ∙ ap (λ m. m ++ drop (length m) lent) words_of;
         held = b.held;
       })

@@ -5,11 +5,10 @@ use mathlib.Core.Path.{◌≡◌, refl, sym, ap, ◌∙◌, ap₂}
 use mathlib.Core.Bool.{Bool, true, false, not}
 use mathlib.Core.List.{List, [], ◌∷◌, ◌++◌, map}
 use native.Mathlib.Omega.{arith}
-use native.Mathlib.Nat.{zero-add}
 use borrow.Author.Tests.{ltb-false}
 use lib.Dec.{ltb}
 use lib.ListN.{length, take, drop, set, length-map}
-use lib.Seq.{sets, sets-eq}
+use lib.Seq.{sets}
 use Rattle.lists.specs.Lists.{keep, keep_by, any, concat_map, Every}
 use Rattle.lists.proofs.Keep.{length-keep}
 use Rattle.lists.proofs.Distinct.{keep_by_test}
@@ -230,7 +229,7 @@ module _ (l : Ledger) (h : Held l) (now : ℕ) where
             (unnamed_index (stands (contents l) now) l h (take l.roster.len c.stay) x j.stay i))
             left-file (pruned-kept now (contents l) h.good) z
 
-        pub prune-done : 0 ≡ refusal_by now c.reports (length lent) → (after : List ℕ) → after ≡ sets lent 0 (take (3 * c.reports) c.words) → (z : length l.entries ≡ 48) →
+        pub prune-done : 0 ≡ refusal_by now c.reports (length lent) → (after : List ℕ) → after ≡ take (3 * c.reports) c.words ++ drop (3 * c.reports) lent → (z : length l.entries ≡ 48) →
             Meets (after_prune now (length lent) (contents l)) lent after
             (saying (Ok (c.reports ∷ c.fallen ∷ 0 ∷ [])) (with_parts l l.rebuilt r l.entries x f z))
         unfolding after_prune
@@ -239,12 +238,11 @@ module _ (l : Ledger) (h : Held l) (now : ℕ) where
             let ws = concat_map report_words (reports now p) in
             let o : Outcome = record { refused = 0; answers = length (reports now p) ∷ length (fallen now p) ∷ []; ledger = pruned now p; words = ws } in
             let none : prune_refusal now (length lent) p ≡ 0 = same_refusal ∙ sym q in
-            let front : sets lent 0 ws ≡ ws ++ drop (length ws) lent = sets-eq ws lent 0 (omega (arith, words_size, enough_room now c.reports (length lent) (sym q))) ∙ ap (λ n. ws ++ drop n lent) (zero-add (length ws)) in
             passes (prune_refusal now (length lent) p) p o lent after _ none
             (record {
               refused = refl;
               answers = ap₂ (λ m n. m ∷ n ∷ 0 ∷ []) j.count j.fallen;
               ledger = (remained z).holds;
-              wrote = w ∙ ap (sets lent 0) j.words ∙ front;
+              wrote = w ∙ ap₂ (λ a k. a ++ drop k lent) j.words (sym words_size);
               held = (remained z).held;
             })

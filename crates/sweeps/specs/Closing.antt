@@ -3,7 +3,6 @@ use Rattle.std.specs.Prelude.{ℕ, ◌≡◌, Bool, cond, not, List, [], ◌∷�
 use Rattle.lists.specs.Lists.{keep}
 use Rattle.rules.specs.Plain.{Entry}
 use Rattle.rules.specs.Entries.{is_closed, closing_decision}
-use Rattle.store.specs.declared.roster.Roster.{Roster}
 use Rattle.store.specs.Roster.{keys_of}
 use Rattle.ledger.specs.declared.Ledger.{Ledger}
 use Rattle.ledger.specs.Contents.{entries_of}
@@ -19,12 +18,11 @@ listed_by (b ∷ bs) (t ∷ ts) (c ∷ cs) = cond b (listed_by bs ts cs) (t ∷ 
 abbrev pub stays_open : ℕ → Entry → Bool
 stays_open local e = not (is_closed local e)
 
--- who stays, the decision code of each, and how many do not stay
+-- who stays, and how many do not
 pub record Judges (l : Ledger) (r : Closing) : Type 0 where
   pub stay : take l.roster.len r.stay ≡ map (stays_open l.local.0) (entries_of l)
-  pub codes : take l.roster.len r.codes ≡ map closing_decision (entries_of l)
   pub count : r.count ≡ length (keep (is_closed l.local.0) (entries_of l))
 
--- the words that list those who do not stay
-abbrev pub listed : Roster → Closing → List ℕ
-listed r c = listed_by (take r.len c.stay) (keys_of r) (take r.len c.codes)
+-- the words that list those whose flag is down
+abbrev pub listed : Ledger → List Bool → List ℕ
+listed l stay = listed_by (take l.roster.len stay) (keys_of l.roster) (map closing_decision (entries_of l))

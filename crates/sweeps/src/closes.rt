@@ -1,10 +1,10 @@
 // Closes: the entries whose issued records are all settled or returned are let go, and listed with their decisions.
-ghost use Rattle.std.specs.Prelude.{◌≤◌, ◌≡◌, cond, length, take};
+ghost use Rattle.std.specs.Prelude.{◌≤◌, ◌≡◌, cond, length};
 ghost use Rattle.std.proofs.lemmas.List.Edits.{sets};
 ghost use Rattle.rules.specs.Calls.{after_closes};
 ghost use Rattle.ledger.specs.Contents.{Held, contents};
 ghost use Rattle.ledger.specs.Meets.{Meets};
-ghost use Rattle.sweeps.specs.Closing.{listed_by, Judges};
+ghost use Rattle.sweeps.specs.Closing.{listed, Judges};
 
 use ledger::{Done, Ledger};
 use store::leaving::without_dropped;
@@ -12,15 +12,14 @@ use types::Transaction;
 use types::refusal::Refusal;
 use types::widths::CLOSE_WORDS;
 
-// By place in the roster who stays and the decision of each, and how many do not stay.
+// By place in the roster who stays, as flags in fixed memory since there is no heap; and how many do not.
 #[derive(Clone, Copy)]
 pub struct Closing {
     pub stay: [bool; 48],
-    pub codes: [u64; 48],
     pub count: usize,
 }
 
-// Aborted if any mark was a return, else Accept.
+// Aborted if any mark was a return, else Accept: the word that the list has.
 fn decision(returned: bool) -> u64
     ensures { result ≡ cond returned 2 1 }
 {
@@ -35,31 +34,30 @@ impl Closing {
     {
         let mut c = Closing {
             stay: [false; 48],
-            codes: [0; 48],
             count: 0,
         };
         for i in 0..ledger.roster.len {
             let slot = ledger.roster.slots[i];
-            let e = ledger.entries[slot];
-            let closed = e.is_closed(ledger.local);
+            let closed = ledger.entries[slot].is_closed(ledger.local);
             c.stay[i] = !closed;
-            c.codes[i] = decision(e.returned);
             c.count += usize::from(closed);
         }
         c
     }
 }
 
-// Transaction and code of each whose flag is down, to the front of the lent list.
-fn list_closed(keys: [u64; 48], codes: [u64; 48], stay: [bool; 48], n: usize, lent: &mut [u64])
-    requires { (n ≤ 48) × (length (listed_by (take n stay) (take n keys) (take n codes)) ≤ length lent.old) }
-    ensures { lent.new ≡ sets lent.old 0 (listed_by (take n stay) (take n keys) (take n codes)) }
+// Transaction and decision of each whose flag is down, to the front of the lent list.
+fn list_closed(ledger: &Ledger, stay: &[bool; 48], lent: &mut [u64])
+    requires held { Held ledger.now }
+    requires room { length (listed ledger.now stay.now) ≤ length lent.old }
+    ensures { lent.new ≡ sets lent.old 0 (listed ledger.now stay.now) }
 {
     let mut at = 0;
-    for i in 0..n {
+    for i in 0..ledger.roster.len {
         if !stay[i] {
-            Transaction(keys[i]).put(lent, at);
-            lent[at + 1] = codes[i];
+            let slot = ledger.roster.slots[i];
+            Transaction(ledger.roster.keys[i]).put(lent, at);
+            lent[at + 1] = decision(ledger.entries[slot].returned);
             at += CLOSE_WORDS;
         }
     }
@@ -77,8 +75,8 @@ pub fn closes(mut ledger: Ledger, lent: &mut [u64]) -> Done
             ledger,
         };
     }
+    list_closed(&ledger, &c.stay, lent);
     let roster = ledger.roster;
-    list_closed(roster.keys, c.codes, c.stay, roster.len, lent);
     ledger.roster = roster.retain(c.stay);
     ledger.issuers = without_dropped(ledger.issuers, roster, c.stay);
     Done {

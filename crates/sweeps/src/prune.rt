@@ -2,10 +2,9 @@
 ghost use Rattle.std.specs.Prelude.{◌+◌, ◌≤◌, ◌≡◌, true, not, [], ◌∷◌, ◌++◌, length, take};
 ghost use Rattle.std.proofs.lemmas.List.Edits.{sets};
 ghost use Rattle.lists.specs.Lists.{any};
-ghost use Rattle.rules.specs.Numbers.{is_shard};
 ghost use Rattle.rules.specs.Calls.{after_prune};
 ghost use Rattle.rules.specs.Words.{transaction_words};
-ghost use Rattle.rules.specs.Widths.{report_size, report_room};
+ghost use Rattle.rules.specs.Widths.{report_size};
 ghost use Rattle.types.specs.Refusals.{refused_in};
 ghost use Rattle.types.specs.Transactions.{number_of};
 ghost use Rattle.entry.specs.Entry.{plain_entry};
@@ -18,13 +17,14 @@ use judge::routes::needs;
 use judge::verdicts::{Verdict, judge};
 use judge::views::View;
 use ledger::{Done, Ledger};
+use lists::slices::part;
 use store::leaving::without_dropped;
 use types::refusal::Refusal;
 use types::widths::{REPORT_WORDS, REPORTS_ROOM};
 use types::{Shard, Time, Transaction, is_time};
 
-// By place in the roster who stays, by place on file which departures those who stay need, whether some departure may still be
-// unneeded, the words of the reports, and how many reports and how many fell.
+// By place in the roster who stays, by place on file which departures those who stay need (flags in fixed memory, since there is no heap),
+// whether some departure may still be unneeded, the words of the reports, and how many reports and how many fell.
 #[derive(Clone, Copy)]
 pub struct Pruning {
     pub stay: [bool; 48],
@@ -37,7 +37,6 @@ pub struct Pruning {
 
 // The flags of the departures, up also for those that the entry needs.
 fn with_needs(mut flags: [bool; 32], e: &Entry, local: Shard, view: &View) -> [bool; 32]
-    requires { is_shard local.0 ≡ true }
     ensures { Needed local.0 (plain_entry e.now) view.now flags result }
 {
     for j in 0..view.len {
@@ -46,12 +45,11 @@ fn with_needs(mut flags: [bool; 32], e: &Entry, local: Shard, view: &View) -> [b
     flags
 }
 
-// Whether some flag of the first n is down.
-fn some_down(flags: [bool; 32], n: usize) -> bool
-    requires { n ≤ 32 }
-    ensures { result ≡ any not (take n flags) }
+// Whether some flag is down.
+fn some_down(flags: &[bool]) -> bool
+    ensures { result ≡ any not flags.now }
 {
-    flags[..n].iter().any(|is_up| !*is_up)
+    flags.iter().any(|is_up| !*is_up)
 }
 
 // A report's words put down at a place.
@@ -95,13 +93,13 @@ impl Pruning {
         let mut p = Pruning::begun();
         for i in 0..ledger.roster.len {
             let slot = ledger.roster.slots[i];
-            let e = ledger.entries[slot];
-            match judge(&e, local, ledger.validity, ledger.leg_span, time, &view) {
+            let e = &ledger.entries[slot];
+            match judge(e, local, ledger.validity, ledger.leg_span, time, &view) {
                 Verdict::Stands => {
                     p.stay[i] = true;
                     if p.some_unneeded {
-                        p.needed = with_needs(p.needed, &e, local, &view);
-                        p.some_unneeded = some_down(p.needed, view.len);
+                        p.needed = with_needs(p.needed, e, local, &view);
+                        p.some_unneeded = some_down(&p.needed[..view.len]);
                     }
                 }
                 Verdict::Falls => p.fallen += 1,
@@ -115,14 +113,6 @@ impl Pruning {
         }
         p
     }
-}
-
-// The first n words to the front of the lent list.
-fn write_reports(words: [u64; REPORTS_ROOM], n: usize, lent: &mut [u64])
-    requires { (n ≤ report_room) × (n ≤ length lent.old) }
-    ensures { lent.new ≡ sets lent.old 0 (take n words) }
-{
-    lent[..n].copy_from_slice(&words[..n]);
 }
 
 // The clock and the room for so many reports, by the table.
@@ -151,7 +141,8 @@ pub fn prune(mut ledger: Ledger, time: Time, lent: &mut [u64]) -> Done
             ledger,
         };
     }
-    write_reports(p.words, REPORT_WORDS * p.reports, lent);
+    let n = REPORT_WORDS * p.reports;
+    lent[..n].copy_from_slice(part(&p.words, 0, n));
     let roster = ledger.roster;
     let left = roster.retain(p.stay);
     ledger.roster = left;

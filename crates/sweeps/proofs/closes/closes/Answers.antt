@@ -11,7 +11,7 @@ returns-then-lent-c c = closes_short c.args.ledger c.requires c.args.lent.now c.
 
 pub list_closed-requires : goal.list_closed-requires
 list_closed-requires c =
-    (c.args.ledger.roster.room, omega (arith, listed-length c.args.ledger c.requires c.args.lent.now c.of-c.result c.of-c.ensures, c.if-lent-c.false))
+    record { held = c.requires; room = omega (arith, listed-length c.args.ledger c.requires c.args.lent.now c.of-c.result c.of-c.ensures, c.if-lent-c.false) }
 
 pub returns : goal.returns
 returns c =

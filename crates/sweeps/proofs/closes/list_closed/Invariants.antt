@@ -3,4 +3,4 @@ use Rattle.sweeps.proofs.Listing.{Listing}
 use Rattle.sweeps.proofs.closes.list_closed.Given as goal
 
 abbrev pub invariant-loop-i : goal.invariant-loop-i
-invariant-loop-i l = Listing l.keys l.codes l.stay l.n l.initial.lent l.lent l.at l.i
+invariant-loop-i l = Listing l.ledger l.stay l.initial.lent l.lent l.at l.i

@@ -6,4 +6,4 @@ pub loop-i-preserved : goal.loop-i-preserved
 loop-i-preserved c =
     let l = c.loop-i in
     rw c.from.ensures
-    (judge_next c.args.ledger.now c.requires l.c.stay l.c.codes l.c.count l.i l.invariant c.loop-i-test.true _ c.decision.result c.decision.ensures c.is_closed-closed.result c.is_closed-closed.ensures)
+    (judge_next c.args.ledger.now c.requires l.c.stay l.c.count l.i l.invariant c.loop-i-test.true _ c.is_closed-closed.result c.is_closed-closed.ensures)

@@ -1,6 +1,6 @@
 -- A turn judges one entry by the rules.
 use Rattle.std.proofs.Common.{◌≡◌, arith, length}
-use Rattle.sweeps.proofs.Reporting.{pass_none, local-good, validity-good, leg-good, file-good, here_timed, pass_stands, pass_idle, pass_falls, pass_reported, passed}
+use Rattle.sweeps.proofs.Reporting.{pass_none, validity-good, leg-good, file-good, here_timed, pass_stands, pass_idle, pass_falls, pass_reported, passed}
 use Rattle.sweeps.proofs.prune.Pruning.of.Goals as goal
 use Rattle.sweeps.proofs.prune.Pruning.of.Goals.{in-Stands+then-p, in-Stands+else-p, in-Falls, in-Reported}
 
@@ -10,9 +10,6 @@ of-view-requires c = file-good c.args.ledger.now c.requires c.args.time.0
 pub loop-i-init : goal.loop-i-init
 loop-i-init c = rw c.begun-p.ensures (pass_none c.args.ledger.now c.requires c.args.time.0)
 
-pub judge-requires-clause-local_value : goal.judge-requires-clause-local_value
-judge-requires-clause-local_value c = local-good c.args.ledger.now c.requires c.args.time.0
-
 pub judge-requires-clause-at_value : goal.judge-requires-clause-at_value
 judge-requires-clause-at_value c = here_timed c.args.ledger.now c.requires c.args.time.0 c.loop-i.i c.loop-i-test.true _
 
@@ -21,9 +18,6 @@ judge-requires-clause-validity_value c = validity-good c.args.ledger.now c.requi
 
 pub judge-requires-clause-leg_span_value : goal.judge-requires-clause-leg_span_value
 judge-requires-clause-leg_span_value c = leg-good c.args.ledger.now c.requires c.args.time.0
-
-pub with_needs-p-requires : goal.with_needs-p-requires
-with_needs-p-requires c = local-good c.args.ledger.now c.requires c.args.time.0
 
 pub loop-i-preserved : goal.loop-i-preserved
 loop-i-preserved c =
