@@ -1,23 +1,27 @@
 -- The calls that look up one transaction: what each does where it is owed and where it is not, from what its parts did.
 -- Assumes nothing.
-use Rattle.std.specs.Prelude.{Some, None}
+use Rattle.std.specs.Prelude.{Option, Some, None}
+use Rattle.std.proofs.Math.Option as maths
+use Rattle.std.proofs.Math.Option.{none, some}
 use Prim.Native.Nat.{ℕ, ◌≤◌, ◌<◌}
 use mathlib.Core.Path.{◌≡◌, refl, ap, sym, ◌∙◌, subst}
-use mathlib.Core.Bool.{Bool, true, false, ◌&&◌}
-use mathlib.Core.List.{[], ◌∷◌}
+use mathlib.Core.Bool.{Bool, true, false, cond, ◌&&◌}
+use mathlib.Core.List.{List, [], ◌∷◌}
 use native.Mathlib.Omega.{arith}
 use lib.ListN.{length, get_or, set}
 use borrow.Author.Tests.{lt-ltb, le-ltb, le-leb, lt-leb}
-use Rattle.lists.specs.Lists.{keep, change, Ascending}
+use Rattle.lists.specs.Lists.{keep, change, without, Ascending}
 use Rattle.lists.specs.Arrays.{place}
 use Rattle.lists.proofs.Tests.{by_cond}
 use Rattle.lists.proofs.Order.{include-known, length-include}
 use Rattle.lists.proofs.Change.{change_same}
 use Rattle.rules.specs.Numbers.{is_word, is_shard}
-use Rattle.rules.specs.Plain.{Absence, transaction_of, absence_key, with_entries, entry_of, is_leg, is_settling, issues}
+use Rattle.rules.specs.Plain as plain
+use Rattle.rules.specs.Plain.{Absence, transaction_of, absence_key, with_entries, entry_of, owed, is_leg, is_settling, issues}
 use Rattle.rules.specs.Entries.{certified, with_absences, read_absent, is_read, marked}
 use Rattle.rules.specs.Outcome.{Outcome, done, yes_no}
-use Rattle.rules.specs.Calls.{forget, certify, absence, settled, returned, after_forget, after_fated, certify_refusal, after_certify, is_new, absence_refusal, after_absence, after_mark}
+use Rattle.rules.specs.Calls.{forget, is_fated, certify, absence, settled, returned, after_forget, after_fated, certify_refusal, after_certify, is_new, absence_refusal, after_absence, after_mark}
+use Rattle.rules.specs.Readings.{of_entry}
 use Rattle.rules.specs.Good.{Good}
 use Rattle.rules.proofs.Kept.{step-good}
 use Rattle.types.specs.declared.refusal.Refusal.TheVariants.{NoShard, Malformed, AbsencesFull}
@@ -33,6 +37,7 @@ use Rattle.store.specs.Issuers.{is_not, pairs_in}
 use Rattle.ledger.specs.declared.Ledger.{Ledger}
 use Rattle.ledger.specs.Contents.{contents, Held, with_parts, storing, lying_at}
 use Rattle.ledger.specs.Meets.{Meets, says, says_no}
+use Rattle.calls.specs.Release.{released}
 use Rattle.ledger.proofs.Places.{Owed, owed_in, found_at, not_found}
 use Rattle.ledger.proofs.Lift.{changed, let_go}
 use Rattle.ledger.proofs.Meeting.{refuses, passes, answers, silent, good-after, stays}
@@ -42,40 +47,46 @@ stored : (o : Outcome) (n : ℕ) (l : Ledger) (x : Entry) {s k : ℕ} → s ≡ 
     ((u : length (set l.entries k x) ≡ 48) → Meets o [] [] (says n (storing l k x u))) → Meets o [] [] (says n (storing l s x z))
 stored o n l x {s} {k} e = subst (λ y. (z : length (set l.entries y x) ≡ 48) → ((u : length (set l.entries k x) ≡ 48) → Meets o [] [] (says n (storing l k x u))) → Meets o [] [] (says n (storing l y x z))) (sym e) (λ z f. f z)
 
--- Forget.
+-- an entry, whichever: the first slot's
+some_entry : (es : List Entry) → length es ≡ 48 → Entry
+some_entry [] h = absurd (omega arith)
+some_entry (e ∷ es) h = e
+
 module _ (l : Ledger) (h : Held l) (t : ℕ) where
-  pub forget_unknown : place (is t) 0 (keys_of l.roster) ≡ None → Meets (after_forget t (contents l)) [] [] (says 0 l)
+  -- Letting go, by a test of the entry.
+  module _ (q : plain.Entry → Bool) (n : ℕ) where
+    pub released_unknown : place (is t) 0 (keys_of l.roster) ≡ None → Meets (released q n t (contents l)) [] [] (says 0 l)
+    released_unknown e = rw (not_found l h t e).got (answers 0 l (contents l) (says 0 l) (stays l h (contents l) refl) refl)
+
+    pub released_other : (k : ℕ) (d : Entry) → place (is t) 0 (keys_of l.roster) ≡ Some k → q (plain_entry (lying_at l k d)) ≡ false →
+        Meets (released q n t (contents l)) [] [] (says 0 l)
+    released_other k d e w = rw ((found_at l h t k e).got d, w) (answers 0 l (contents l) (says 0 l) (stays l h (contents l) refl) refl)
+
+    pub released-passing : (k : ℕ) (d : Entry) → place (is t) 0 (keys_of l.roster) ≡ Some k → q (plain_entry (lying_at l k d)) ≡ true →
+        (r : Roster) (x : Issuers) → Removed l.roster k r → issuers.Holds (keep (is_not t) (pairs_in l.issuers)) x → (s : length l.entries ≡ 48) →
+        Meets (released q n t (contents l)) [] [] (says n (with_parts l l.rebuilt r l.entries x l.departures s))
+    unfolding after_forget
+    released-passing k d e w r x c i s =
+        let b = let_go l h t k r x e c i (step-good (forget t) tt (contents l) h.good) s in
+        rw ((found_at l h t k e).got d, w) (answers n (with_parts l l.rebuilt r l.entries x l.departures s) _ _ b refl)
+
+  -- forget asks nothing of the entry, and fated that it is a leg
+  pub forget-is : released (λ e. true) 1 t (contents l) ≡ after_forget t (contents l)
   unfolding after_forget
-  forget_unknown e =
-      let w = not_found l h t e in
-      rw (w.known, w.gone) (answers 0 l (contents l) (says 0 l) (stays l h (contents l) refl) refl)
+  forget-is = go (place (is t) 0 (keys_of l.roster)) refl
+    where
+      go : (o : Option ℕ) → place (is t) 0 (keys_of l.roster) ≡ o → released (λ e. true) 1 t (contents l) ≡ done (yes_no (owed t (contents l)) ∷ []) (with_entries (without transaction_of t (contents l).entries) (contents l))
+      go None e = let w = not_found l h t e in rw (w.got, w.known, w.gone) refl
+      go (Some k) e = let a = found_at l h t k e in rw (a.got (some_entry l.entries l.slots), a.known) refl
 
-  pub forget-owed : (k : ℕ) → place (is t) 0 (keys_of l.roster) ≡ Some k → (r : Roster) (x : Issuers) → Removed l.roster k r →
-      issuers.Holds (keep (is_not t) (pairs_in l.issuers)) x → (s : length l.entries ≡ 48) → Meets (after_forget t (contents l)) [] [] (says 1 (with_parts l l.rebuilt r l.entries x l.departures s))
-  unfolding after_forget
-  forget-owed k e r x c i s =
-      let a = found_at l h t k e in
-      let b = let_go l h t k r x e c i (step-good (forget t) tt (contents l) h.good) s in
-      rw a.known (answers 1 (with_parts l l.rebuilt r l.entries x l.departures s) _ _ b refl)
-
-  -- Fated.
-  pub fated_unknown : place (is t) 0 (keys_of l.roster) ≡ None → Meets (after_fated t (contents l)) [] [] (says 0 l)
+  pub fated-is : released (λ e. is_leg e.part) 2 t (contents l) ≡ after_fated t (contents l)
   unfolding after_fated
-  fated_unknown e = rw (not_found l h t e).got (answers 0 l (contents l) (says 0 l) (stays l h (contents l) refl) refl)
-
-  pub fated_other : (k : ℕ) (d : Entry) → place (is t) 0 (keys_of l.roster) ≡ Some k →
-      is_leg (plain_entry (lying_at l k d)).part ≡ false → Meets (after_fated t (contents l)) [] [] (says 0 l)
-  unfolding after_fated
-  fated_other k d e q = rw ((found_at l h t k e).got d, q) (answers 0 l (contents l) (says 0 l) (stays l h (contents l) refl) refl)
-
-  pub fated-leg : (k : ℕ) (d : Entry) → place (is t) 0 (keys_of l.roster) ≡ Some k →
-      is_leg (plain_entry (lying_at l k d)).part ≡ true → (r : Roster) (x : Issuers) → Removed l.roster k r →
-      issuers.Holds (keep (is_not t) (pairs_in l.issuers)) x → (s : length l.entries ≡ 48) → Meets (after_fated t (contents l)) [] [] (says 2 (with_parts l l.rebuilt r l.entries x l.departures s))
-  unfolding after_fated after_forget
-  fated-leg k d e q r x c i s =
-      let a = found_at l h t k e in
-      let b = let_go l h t k r x e c i (step-good (forget t) tt (contents l) h.good) s in
-      rw (a.got d, q) (answers 2 (with_parts l l.rebuilt r l.entries x l.departures s) _ _ b refl)
+  fated-is = go (entry_of t (contents l))
+    where
+      go : (o : maths.Option plain.Entry) → cond (of_entry (λ e. is_leg e.part) o) (done (2 ∷ []) (with_entries (without transaction_of t (contents l).entries) (contents l))) (done (0 ∷ []) (contents l))
+          ≡ cond (is_fated o) (done (2 ∷ []) (with_entries (without transaction_of t (contents l).entries) (contents l))) (done (0 ∷ []) (contents l))
+      go none = refl
+      go (some e) = refl
 
   -- Certify.
   module _ (code : ℕ) where
