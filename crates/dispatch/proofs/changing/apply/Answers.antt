@@ -23,7 +23,7 @@ loop-i-preserved c =
     let on : (later : List ℕ) (s : Done) → Meets (step call (contents c.loop-i.done.ledger)) c.refill.new.lent later s → length later ≡ length c.args.lent.now →
     Going c.args.blank call c.args.ledger c.args.lent.now later s (c.loop-i.i + 1) =
     λ later s m e. going_on _ _ _ _ _ _ _ _ _ c.loop-i.i c.loop-i.invariant c.refill.ensures m e in
-    -- in-5 and in-6 search for what the call says: the edit that exchanges the two calls is then refused for that fact, and for no name
+    -- in-5 and in-6 search for what the call says: edits that exchange the two calls or their words are then refused for that fact, and for no name
     elim c.match-kind.branch [
       | in-1 w ↦ rw (w.lent-is, w.done-is) (on _ w.register_committed-done.result (simp w.in-1.is (beside _ _ _ w.register_committed-done.ensures)) same)
       | in-2 w ↦ rw (w.lent-is, w.done-is) (on _ w.record_absence-done.result (simp (w.in-2.is, ← c.read-tx.ensures, ← c.word_at-b.ensures, ← c.word_at-c.ensures) (beside _ _ _ w.record_absence-done.ensures)) same)

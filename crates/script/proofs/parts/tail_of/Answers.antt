@@ -10,7 +10,7 @@ loop-at-init c = record { within = omega arith; few = omega arith; tail = refl; 
 
 pub returns-then-is_lent : goal.returns-then-is_lent
 returns-then-is_lent c =
-    let s = sym c.if-is_lent.true ∙ (c.eq-is_lent.ensures ∙ ap (same_text _) c.as_slice.ensures) in
+    let s = sym c.if-is_lent.true ∙ c.eq-is_lent.ensures ∙ ap (same_text _) c.as_slice.ensures in
     let q = c.with_lent.ensures ∙ sym (tail_lent _ _ _ c.loop-at-test.true c.token_end-end.ensures.2 _ s) ∙ c.loop-at.invariant.tail in
     record {
       count_bound = small_of _ _ q (tail_small 0 _ (omega arith));
@@ -20,15 +20,17 @@ returns-then-is_lent c =
 
 pub returns-in_err-n-clause-value : goal.returns-in_err-n-clause-value
 returns-in_err-n-clause-value c =
-    c.from_residual.ensures ∙ sym (tail_not _ _ _ c.loop-at-test.true c.token_end-end.ensures.2 _ (sym c.if-is_lent.false ∙ (c.eq-is_lent.ensures ∙ ap (same_text _) c.as_slice.ensures)) c.in_err-n.ensures) ∙ c.loop-at.invariant.tail
+    let s = sym c.if-is_lent.false ∙ c.eq-is_lent.ensures ∙ ap (same_text _) c.as_slice.ensures in
+    c.from_residual.ensures ∙ sym (tail_not _ _ _ c.loop-at-test.true c.token_end-end.ensures.2 _ s c.in_err-n.ensures) ∙ c.loop-at.invariant.tail
 
 pub returns-then-count-ge2048-clause-value : goal.returns-then-count-ge2048-clause-value
 returns-then-count-ge2048-clause-value c =
-    sym (tail_many _ _ _ c.loop-at-test.true c.token_end-end.ensures.2 _ _ (sym c.if-is_lent.false ∙ (c.eq-is_lent.ensures ∙ ap (same_text _) c.as_slice.ensures)) c.in_ok-n.ensures c.if-count-ge2048.true) ∙ c.loop-at.invariant.tail
+    let s = sym c.if-is_lent.false ∙ c.eq-is_lent.ensures ∙ ap (same_text _) c.as_slice.ensures in
+    sym (tail_many _ _ _ c.loop-at-test.true c.token_end-end.ensures.2 _ _ s c.in_ok-n.ensures c.if-count-ge2048.true) ∙ c.loop-at.invariant.tail
 
 pub loop-at-preserved : goal.loop-at-preserved
 loop-at-preserved c =
-    let s = sym c.if-is_lent.false ∙ (c.eq-is_lent.ensures ∙ ap (same_text _) c.as_slice.ensures) in
+    let s = sym c.if-is_lent.false ∙ c.eq-is_lent.ensures ∙ ap (same_text _) c.as_slice.ensures in
     record {
       within = omega arith;
       few = omega arith;
