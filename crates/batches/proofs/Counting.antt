@@ -17,9 +17,8 @@ use Rattle.lists.proofs.Order.{ascending-include_all}
 use Rattle.lists.proofs.Change.{new_include_known, new_include}
 use Rattle.lists.proofs.Cuts.{rest_more, rest-none}
 use Rattle.rules.specs.Plain.{Terms}
-use Rattle.rules.specs.Words.{transaction_at, group_count, group_size, groups_at, group_terms, record_groups, record_formed}
-use Rattle.words.proofs.Groups.{groups_length, group_there, group_transaction_lem, reach}
-use Rattle.words.specs.Taken.{group_at}
+use Rattle.rules.specs.Words.{transaction_at, group_count, group_size, groups_at, record_groups, record_formed}
+use Rattle.words.proofs.Groups.{groups_length, group-at, group_transaction_lem, reach, none}
 use Rattle.batches.specs.Abandoned.{transactions, new_to}
 
 -- one more of the front

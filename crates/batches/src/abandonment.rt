@@ -21,12 +21,7 @@ fn is_among(groups: Record<'_>, n: usize, tx: Transaction) -> bool
     requires { n ≤ group_count groups.words.now }
     ensures { result ≡ has itself (number_of tx) (take n (transactions groups.entry.words.now)) }
 {
-    for i in 0..n {
-        if groups.transaction(i) == tx {
-            return true;
-        }
-    }
-    false
+    (0..n).any(|i| groups.transaction(i) == tx)
 }
 
 // How many distinct transactions are not yet owed: a group counts if no earlier one is of its transaction.

@@ -7,7 +7,7 @@ use mathlib.Core.List.{List, []}
 use native.Mathlib.Omega.{arith}
 use lib.Dec.{eqb, ltb, leb}
 use lib.ListN.{length}
-use borrow.Author.Tests.{eq-eqb, ne_eqb, lt-ltb, lt-leb, ltb-true, leb-false, not-true}
+use borrow.Author.Tests.{lt-ltb, lt-leb, ltb-true, leb-false, not-true}
 use Rattle.std.specs.Prelude.{Option, Some, None, is_some}
 use Rattle.lists.specs.Arrays.{place}
 use Rattle.lists.proofs.Loops.{located, missing}
@@ -32,7 +32,8 @@ use Rattle.ledger.specs.Contents.{contents, Held, with_parts}
 use Rattle.ledger.specs.Meets.{Meets, says, says_no}
 use Rattle.ledger.proofs.Lift.{filed}
 use Rattle.ledger.proofs.Meeting.{numbered, refuses, passes, silent, good-after}
-use Rattle.calls.specs.Terminals.{is_until, words_refusal, filed_as}
+use Rattle.types.specs.declared.Time.{Time}
+use Rattle.calls.specs.Terminals.{is_until, words_refusal, filed_as, filed_with, stamp_in}
 
 module _ (l : Ledger) (h : Held l) (shard : ℕ) where
   -- Stamp.
@@ -122,14 +123,13 @@ module _ (l : Ledger) (h : Held l) (shard : ℕ) where
           passes (terminal_refusal shard cut is_stamped until (contents l)) (contents l) (done [] _) [] [] (says 0 (with_parts l l.rebuilt l.roster l.entries l.issuers x z)) none
           (silent (with_parts l l.rebuilt l.roster l.entries l.issuers x z) _ _ (filed l h _ x f good z) refl)
 
--- a shard put on file unstamped, and stamped
-module _ (shard cut is_stamped until : ℕ) (d : Departures) where
-  pub filed_open : is_stamped ≡ 0 → (x : Departures) → departures.Holds (departed shard cut (on_file d)) x → departures.Holds (filed_as shard cut is_stamped until (on_file d)) x
-  filed_open z x f = rw (eq-eqb is_stamped 0 z) f
-
-  pub filed_dated : (is_stamped ≡ 0 → ⊥) → (x y : Departures) → departures.Holds (departed shard cut (on_file d)) x → departures.Holds (change shard_of shard (stamped until) (on_file x)) y →
-      departures.Holds (filed_as shard cut is_stamped until (on_file d)) y
-  filed_dated z x y f g = rw (ne_eqb is_stamped 0 z) (record { file = g.file ∙ ap (change shard_of shard (stamped until)) f.file })
+-- what is filed by the stamp is filed by the words that say it
+pub filed-words : (shard cut is_stamped : ℕ) (until : Time) (ds : List plain.Departure) → filed_with shard cut (stamp_in is_stamped until) ds ≡ filed_as shard cut is_stamped until.0 ds
+filed-words shard cut is_stamped until ds = go (eqb is_stamped 0)
+  where
+    go : (b : Bool) → filed_with shard cut (cond b None (Some until)) ds ≡ cond b (departed shard cut ds) (change shard_of shard (stamped until.0) (departed shard cut ds))
+    go true = refl
+    go false = refl
 
 -- room: the shard stands, or fewer than 32 do
 pub room-known : (n : ℕ) (k : Bool) → k ≡ true → true ≡ k || not (leb 32 n)

@@ -7,7 +7,7 @@ ghost use Rattle.store.specs.Departures.{Holds, on_file, room_for};
 ghost use Rattle.ledger.specs.Contents.{Held, contents};
 ghost use Rattle.ledger.specs.Meets.{Meets};
 ghost use Rattle.types.specs.Refusals.{refused_in};
-ghost use Rattle.calls.specs.Terminals.{is_until, words_refusal, filed_as};
+ghost use Rattle.calls.specs.Terminals.{is_until, words_refusal, stamp_in, filed_with};
 
 use ledger::{Done, Ledger};
 use store::departures::Departures;
@@ -48,16 +48,22 @@ fn has_room(departures: Departures, shard: Shard) -> bool
     departures.find(shard).is_some() || departures.len < 32
 }
 
+// The stamp that comes with a terminal, whose words are read as the paper has them: a word that says whether, and a time.
+fn stamp_in(stamped: u64, until: Time) -> Option<Time>
+    ensures { result ≡ stamp_in stamped until }
+{
+    if stamped == 0 { None } else { Some(until) }
+}
+
 // The departures with the shard's on file, stamped or not yet.
-fn filed(departures: Departures, shard: Shard, cut: Time, stamped: u64, until: Time) -> Departures
+fn filed(departures: Departures, shard: Shard, cut: Time, stamp: Option<Time>) -> Departures
     requires { room_for departures shard.0 cut.0 }
-    ensures { Holds (filed_as shard.0 cut.0 stamped until.0 (on_file departures)) result }
+    ensures { Holds (filed_with shard.0 cut.0 stamp (on_file departures)) result }
 {
     let known = departures.departed(shard, cut);
-    if stamped == 0 {
-        known
-    } else {
-        known.stamped(shard, until)
+    match stamp {
+        None => known,
+        Some(until) => known.stamped(shard, until),
     }
 }
 
@@ -84,7 +90,8 @@ pub fn record_terminal(
             ledger,
         };
     }
-    ledger.departures = filed(ledger.departures, shard, cut, stamped, until);
+    let stamp = stamp_in(stamped, until);
+    ledger.departures = filed(ledger.departures, shard, cut, stamp);
     Done {
         said: Ok([0; 3]),
         ledger,

@@ -1,7 +1,8 @@
 -- The departures alone change, and each is put on file once.
 use Rattle.std.proofs.Common.{◌∙◌, sym}
 use Rattle.ledger.specs.Contents.{contents}
-use Rattle.calls.proofs.Departing.{terminal-refused, terminal_full, terminal_filed, room}
+use Rattle.calls.proofs.Departing.{terminal-refused, terminal_full, terminal_filed, room, filed-words}
+use Rattle.store.specs.Departures.{on_file}
 use Rattle.calls.proofs.terminal.record_terminal.Goals as goal
 
 pub returns-in-Err : goal.returns-in-Err
@@ -20,4 +21,5 @@ filed-ledger-requires c =
 pub returns : goal.returns
 unfolding contents
 returns c =
-    terminal_filed c.args.ledger c.requires c.args.shard.0 c.args.cut.0 c.args.stamped c.args.until.0 c.in_default.ensures (sym c.has_room.ensures ∙ c.if-not-has_room.false) c.filed-ledger.result c.filed-ledger.ensures _
+    terminal_filed c.args.ledger c.requires c.args.shard.0 c.args.cut.0 c.args.stamped c.args.until.0 c.in_default.ensures (sym c.has_room.ensures ∙ c.if-not-has_room.false) c.filed-ledger.result
+    (rw (c.stamp_in-stamp.ensures, filed-words c.args.shard.0 c.args.cut.0 c.args.stamped c.args.until (on_file c.args.ledger.departures)) at c.filed-ledger.ensures) _
