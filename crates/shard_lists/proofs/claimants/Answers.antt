@@ -13,9 +13,6 @@ returns-in_default c =
     let a = c.args in
     not-owed a.ledger c.requires (number_of a.tx) a.lent.now (claimants_of a.ledger.local.0 a.r.0) 0 refl (rw c.in_default.is at c.slot_of.ensures)
 
-pub list-requires : goal.list-requires
-list-requires c = set_room c.destinations-shards.result
-
 pub returns : goal.returns
 unfolding claimants contents
 returns c =

@@ -4,7 +4,7 @@ use Rattle.std.proofs.Common.{arith, le-leb}
 use Rattle.types.specs.Transactions.{number_of}
 use Rattle.ledger.specs.Contents.{contents}
 use Rattle.ledger.proofs.Places.{owed_in}
-use Rattle.shard_lists.proofs.Listed.{set_room, no_counterparts, of_counterparts}
+use Rattle.shard_lists.proofs.Listed.{no_counterparts, of_counterparts}
 use Rattle.shard_lists.proofs.counterparts.Goals as goal
 
 pub returns-in_default : goal.returns-in_default
@@ -15,9 +15,6 @@ pub beyond-shards-requires : goal.beyond-shards-requires
 unfolding contents
 beyond-shards-requires c =
     (c.requires.good.departures.rows.each, c.requires.good.frame.local, le-leb c.args.depth 32 (omega arith))
-
-pub list-requires : goal.list-requires
-list-requires c = set_room c.beyond-shards.result
 
 pub returns : goal.returns
 returns c =
