@@ -78,7 +78,7 @@ impl Roster {
 
     // What stands at a place let go: its slot goes behind those in use.
     pub fn remove_at(self, k: usize) -> Roster
-        requires { (k < self.len) }
+        requires { k < self.len }
         ensures { Removed self k result }
     {
         let mut r = self;

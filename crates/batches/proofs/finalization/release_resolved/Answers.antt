@@ -31,34 +31,40 @@ loop-i-init c = (c.args.ledger.slots, nothing-done _ _ (finalization_lines c.in-
 
 pub loop-i-preserved-in_default-find : goal.loop-i-preserved-in_default-find
 loop-i-preserved-in_default-find c =
-    (c.loop-i.invariant.0, line_unknown c.args.ledger c.in-Some.finalization.words.now (whole c.loop-i.ledger c.loop-i.invariant.0) c.loop-i.released c.loop-i.i c.loop-i.invariant.1 _ c.line-line.ensures.next (sym c.find.ensures ∙ c.in_default-find.is))
+    let l : Ledger = whole c.loop-i.ledger c.loop-i.invariant.0 in
+    (c.loop-i.invariant.0, line_unknown c.args.ledger c.in-Some.finalization.words.now l c.loop-i.released c.loop-i.i c.loop-i.invariant.1 _ c.line-line.ensures.next (sym c.find.ensures ∙ c.in_default-find.is))
 
 pub offset_bounds-ledger-k : goal.offset_bounds-ledger-k
 offset_bounds-ledger-k c = omega (arith, (there c).place)
 
 pub bounds-ledger-k : goal.bounds-ledger-k
-bounds-ledger-k c = omega (arith, (there c).place, (whole c.loop-i.ledger c.loop-i.invariant.0).roster.room)
+bounds-ledger-k c =
+    let l : Ledger = whole c.loop-i.ledger c.loop-i.invariant.0 in
+    omega (arith, (there c).place, l.roster.room)
 
 pub remove_at-ledger-requires : goal.remove_at-ledger-requires
-remove_at-ledger-requires c = (found_at (whole c.loop-i.ledger c.loop-i.invariant.0) c.loop-i.invariant.1.held _ c.in-Some-find.k (sym c.find.ensures ∙ c.in-Some-find.is)).place
+remove_at-ledger-requires c =
+    let l : Ledger = whole c.loop-i.ledger c.loop-i.invariant.0 in
+    (found_at l c.loop-i.invariant.1.held _ c.in-Some-find.k (sym c.find.ensures ∙ c.in-Some-find.is)).place
 
 pub overflow_add-released : goal.overflow_add-released
 overflow_add-released c =
-    omega (arith, finalized c.in-Some.finalization.words.now c.in-Some.finalization.formed, released_few c.args.ledger c.in-Some.finalization.words.now (whole c.loop-i.ledger c.loop-i.invariant.0) c.loop-i.released c.loop-i.i c.in-Some.finalization.formed c.loop-i.invariant.1)
+    let l : Ledger = whole c.loop-i.ledger c.loop-i.invariant.0 in
+    omega (arith, finalized c.in-Some.finalization.words.now c.in-Some.finalization.formed, released_few c.args.ledger c.in-Some.finalization.words.now l c.loop-i.released c.loop-i.i c.in-Some.finalization.formed c.loop-i.invariant.1)
 
 pub loop-i-preserved : goal.loop-i-preserved
 loop-i-preserved c =
     let l : Ledger = whole c.loop-i.ledger c.loop-i.invariant.0 in
     let kept : (x : Entry) → length (set l.entries (slot_at l c.in-Some-find.k) x) ≡ 48 = λ x. length-set l.entries (slot_at l c.in-Some-find.k) x ∙ l.slots in
     elim c.match-rule.branch [
-      | in-Skip w ↦ rw (w.ledger-is, w.released-is) (l.slots, line_leave c.args.ledger c.in-Some.finalization.words.now (whole c.loop-i.ledger c.loop-i.invariant.0) c.loop-i.released c.loop-i.i c.loop-i.invariant.1 _ c.line-line.ensures.next c.in-Some-find.k _ (sym c.find.ensures ∙ c.in-Some-find.is) c.line-line.ensures.coded c.rule.result c.rule.ensures (inl w.in-Skip.is))
-      | in-Resolve w ↦ rw (w.ledger-is, w.released-is) (kept w.resolve.result, line-resolve c.args.ledger c.in-Some.finalization.words.now (whole c.loop-i.ledger c.loop-i.invariant.0) c.loop-i.released c.loop-i.i c.loop-i.invariant.1 _ c.line-line.ensures.next c.in-Some-find.k _ (sym c.find.ensures ∙ c.in-Some-find.is) c.line-line.ensures.coded c.rule.result c.rule.ensures w.in-Resolve.is w.resolve.result w.resolve.ensures (kept w.resolve.result))
-      | in-Release w ↦ rw (w.ledger-is, w.released-is) (l.slots, line-release c.args.ledger c.in-Some.finalization.words.now (whole c.loop-i.ledger c.loop-i.invariant.0) c.loop-i.released c.loop-i.i c.loop-i.invariant.1 _ c.line-line.ensures.next c.in-Some-find.k _ (sym c.find.ensures ∙ c.in-Some-find.is) c.line-line.ensures.coded c.rule.result c.rule.ensures w.in-Release.is w.remove_at-ledger.result w.without-ledger.result w.remove_at-ledger.ensures w.without-ledger.ensures l.slots)
-      | in-Refused w ↦ rw (w.ledger-is, w.released-is) (l.slots, line_leave c.args.ledger c.in-Some.finalization.words.now (whole c.loop-i.ledger c.loop-i.invariant.0) c.loop-i.released c.loop-i.i c.loop-i.invariant.1 _ c.line-line.ensures.next c.in-Some-find.k _ (sym c.find.ensures ∙ c.in-Some-find.is) c.line-line.ensures.coded c.rule.result c.rule.ensures (inr w.in-Refused.is))
+      | in-Skip w ↦ rw (w.ledger-is, w.released-is) (l.slots, line_leave c.args.ledger c.in-Some.finalization.words.now l c.loop-i.released c.loop-i.i c.loop-i.invariant.1 _ c.line-line.ensures.next c.in-Some-find.k _ (sym c.find.ensures ∙ c.in-Some-find.is) c.line-line.ensures.coded c.rule.result c.rule.ensures (inl w.in-Skip.is))
+      | in-Resolve w ↦ rw (w.ledger-is, w.released-is) (kept w.resolve.result, line-resolve c.args.ledger c.in-Some.finalization.words.now l c.loop-i.released c.loop-i.i c.loop-i.invariant.1 _ c.line-line.ensures.next c.in-Some-find.k _ (sym c.find.ensures ∙ c.in-Some-find.is) c.line-line.ensures.coded c.rule.result c.rule.ensures w.in-Resolve.is w.resolve.result w.resolve.ensures (kept w.resolve.result))
+      | in-Release w ↦ rw (w.ledger-is, w.released-is) (l.slots, line-release c.args.ledger c.in-Some.finalization.words.now l c.loop-i.released c.loop-i.i c.loop-i.invariant.1 _ c.line-line.ensures.next c.in-Some-find.k _ (sym c.find.ensures ∙ c.in-Some-find.is) c.line-line.ensures.coded c.rule.result c.rule.ensures w.in-Release.is w.remove_at-ledger.result w.without-ledger.result w.remove_at-ledger.ensures w.without-ledger.ensures l.slots)
+      | in-Refused w ↦ rw (w.ledger-is, w.released-is) (l.slots, line_leave c.args.ledger c.in-Some.finalization.words.now l c.loop-i.released c.loop-i.i c.loop-i.invariant.1 _ c.line-line.ensures.next c.in-Some-find.k _ (sym c.find.ensures ∙ c.in-Some-find.is) c.line-line.ensures.coded c.rule.result c.rule.ensures (inr w.in-Refused.is))
     ]
 
 pub returns : goal.returns
 returns c =
     let l : Ledger = whole c.loop-i.ledger c.loop-i.invariant.0 in
     as_it_was (λ y. Meets (after_finalization c.args.words.now (contents c.args.ledger)) [] [] (says c.loop-i.released y)) l
-    (rw c.in-Some.ensures at (resolved c.args.ledger c.in-Some.finalization.words.now (whole c.loop-i.ledger c.loop-i.invariant.0) c.loop-i.released c.loop-i.i c.in-Some.finalization.formed c.loop-i.invariant.1 (omega (arith, c.loop-i-test.false, c.len-i-end.ensures)))) _
+    (rw c.in-Some.ensures at (resolved c.args.ledger c.in-Some.finalization.words.now l c.loop-i.released c.loop-i.i c.in-Some.finalization.formed c.loop-i.invariant.1 (omega (arith, c.loop-i-test.false, c.len-i-end.ensures)))) _

@@ -1,3 +1,4 @@
+-- A turn passes one that stays by, or puts the next that leaves behind those at the front.
 use Rattle.std.proofs.Common.{◌≡◌, length, take, arith, rules}
 use Rattle.store.specs.Roster.{keys_of}
 use Rattle.store.specs.Leaving.{dropped_by}

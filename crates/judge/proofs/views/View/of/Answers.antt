@@ -1,3 +1,4 @@
+-- A turn sees one departure.
 use Rattle.std.proofs.Common.{arith, None}
 use lib.ListN.{length-map}
 use lib.Seq.{length-take-le}

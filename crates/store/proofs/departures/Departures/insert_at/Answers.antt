@@ -1,3 +1,4 @@
+-- What is put in stands on file at its place.
 use Rattle.std.proofs.Common.{◌∙◌, ap, take, map}
 use Rattle.lists.proofs.Distinct.{map-insert_at}
 use Rattle.store.specs.Departures.{plain_departure}

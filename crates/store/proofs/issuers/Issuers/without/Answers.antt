@@ -1,3 +1,4 @@
+-- The flags keep the pairs of the other transactions.
 use Rattle.std.proofs.Common.{◌≡◌, ◌∙◌, sym, ap, length, take, map, arith, rules}
 use Rattle.std.proofs.Math.Seq.{take_all}
 use Rattle.lists.specs.Lists.{keep_by}
