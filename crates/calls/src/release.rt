@@ -14,12 +14,7 @@ use types::Transaction;
 // A transaction whose entry passes is let go, with an answer; any other stays, and the answer is 0. Inlined, since a call would copy the
 // ledger twice more.
 #[inline(always)]
-fn let_go<F: Fn(&Entry) -> bool>(
-    mut ledger: Ledger,
-    tx: Transaction,
-    goes: F,
-    answer: u64,
-) -> Done
+fn let_go<F: Fn(&Entry) -> bool>(mut ledger: Ledger, tx: Transaction, goes: F, answer: u64) -> Done
     requires held { Held ledger }
     requires callable { (e : _) → F.pre goes e }
     ensures { Releases (FnReturnsAt F.Fn goes) ledger (number_of tx) answer result }

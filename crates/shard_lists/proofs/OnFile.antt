@@ -79,7 +79,10 @@ module _ (Says : Departure → Bool → Type 0) (x : Departures) where
     pub passed-by : b ≡ false → Picked (i + 1) items n
     passed-by t =
         record {
-          flags = flags; long = long; few = omega (arith, q.few); size = q.size;
+          flags = flags;
+          long = long;
+          few = omega (arith, q.few);
+          size = q.size;
           front = q.front ∙ ap (map shard_of) (sym (append-nil (keep_by q.flags (on_file x)))) ∙ ap (λ c. map shard_of (keep_by q.flags (on_file x) ++ cons_if c (plain_departure (at d i)) [])) (sym t) ∙ ap (map shard_of) (sym kept);
           by = said;
         }
@@ -87,7 +90,10 @@ module _ (Says : Departure → Bool → Type 0) (x : Departures) where
     pub picked : b ≡ true → Picked (i + 1) (set items n (at d i).shard.0) (n + 1)
     picked t =
         record {
-          flags = flags; long = long; few = omega (arith, q.few); size = length-set items n (at d i).shard.0 ∙ q.size;
+          flags = flags;
+          long = long;
+          few = omega (arith, q.few);
+          size = length-set items n (at d i).shard.0 ∙ q.size;
           front =
               take_more_set items n (at d i).shard.0 (omega (arith, q.few, q.size, x.room))
               ∙ ap (λ l. l ++ (at d i).shard.0 ∷ []) q.front

@@ -1,3 +1,4 @@
+-- A group counts if its transaction is neither owed nor that of an earlier one.
 use Rattle.std.proofs.Common.{◌∙◌, sym, arith}
 use Rattle.lists.specs.Lists.{self}
 use Rattle.lists.proofs.Loops.{located, missing}

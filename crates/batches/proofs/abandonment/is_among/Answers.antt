@@ -28,6 +28,6 @@ returns c =
     any_from_yields_List test _ _ c.any.result c.any.ensures.ran (YieldsList-from_range 0 n n refl (omega arith)) (λ x b q k. search (rules, tests)) in
     let here : (j k : ℕ) → j ≡ 0 + k → k < length ts → test j ≡ at self (number_of c.args.tx) (get_or ts k 0) =
     λ j k e h.
-        ap test (let z : j ≡ k = omega arith in z)
-        ∙ ap (λ x. eqb x (number_of c.args.tx)) (transaction-at ws r.formed k (omega (arith, h, size, c.requires)) ∙ sym (get_or-take n (transactions ws) k 0 (omega (arith, h, size)))) in
+    ap test (let z : j ≡ k = omega arith in z)
+    ∙ ap (λ x. eqb x (number_of c.args.tx)) (transaction-at ws r.formed k (omega (arith, h, size, c.requires)) ∙ sym (get_or-take n (transactions ws) k 0 (omega (arith, h, size)))) in
     chain ∙ ap (λ m. list_any test (range_with_len 0 m)) (sym size) ∙ any_places test (at self (number_of c.args.tx)) 0 ts here

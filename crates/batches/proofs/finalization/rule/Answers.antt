@@ -1,3 +1,4 @@
+-- The ruling is by the line's code, and by what is asked of the entry.
 use Rattle.std.proofs.Common.{◌∙◌, ap₂}
 use Rattle.entry.specs.Entry.{plain_entry}
 use Rattle.batches.specs.Rulings.{ruled_by}

@@ -1,3 +1,4 @@
+-- The number is the one held.
 use Rattle.std.proofs.Common.{refl}
 use Rattle.ledger.specs.Contents.{contents}
 use Rattle.readings.proofs.Looked.{tells}

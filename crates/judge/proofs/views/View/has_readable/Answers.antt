@@ -1,3 +1,4 @@
+-- A test of the view is one of the departures that it shows.
 use Rattle.std.proofs.Common.{rules, tests, take, ◌∙◌}
 use Rattle.std.proofs.lemmas.Iterator.{YieldsList-from_slice}
 use Rattle.std.proofs.lemmas.Iterator.Search.{any_from_yields_List}
