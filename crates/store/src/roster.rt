@@ -95,20 +95,16 @@ impl Roster {
     pub fn retain(self, stay: [bool; 48]) -> Roster
         ensures { Retained self (take self.len stay) result }
     {
-        let mut keys = self.keys;
-        let mut slots = self.slots;
+        let mut r = self;
         let mut w = 0;
         for i in 0..self.len {
             if stay[i] {
-                keys[w] = keys[i];
-                slots.swap(i, w);
+                r.keys[w] = r.keys[i];
+                r.slots.swap(i, w);
                 w += 1;
             }
         }
-        Roster {
-            keys,
-            slots,
-            len: w,
-        }
+        r.len = w;
+        r
     }
 }

@@ -28,8 +28,8 @@ loop-i-preserved c =
     let h : l.i < a.self.len = omega arith in
     let m : a.self.len ≤ 48 = a.self.room in
     elim c.if-stay-i.branch [
-      | then-stay-i w ↦ rw (w.keys-is, w.slots-is, w.w-is, w.swap.ensures.after, swap_is 0 l.w l.i l.slots (omega arith) (omega arith)) (turn_up a.self a.self.len a.stay l.keys l.slots l.w l.i l.invariant h m f w.if-stay-i.true)
-      | else-stay-i w ↦ rw (w.keys-is, w.slots-is, w.w-is) (turn_down a.self a.self.len a.stay l.keys l.slots l.w l.i l.invariant h m f w.if-stay-i.false)
+      | then-stay-i w ↦ rw (w.r-is, w.w-is, w.swap.ensures.after, swap_is 0 l.w l.i l.r.1.0 (omega arith) (omega arith)) (turn_up a.self a.self.len a.stay l.r.0 l.r.1.0 l.w l.i l.invariant h m f w.if-stay-i.true)
+      | else-stay-i w ↦ rw (w.r-is, w.w-is) (turn_down a.self a.self.len a.stay l.r.0 l.r.1.0 l.w l.i l.invariant h m f w.if-stay-i.false)
     ]
 
 pub returns : goal.returns
@@ -39,6 +39,16 @@ returns c =
     let a = c.args in
     let f : length a.stay ≡ 48 = search rules in
     record {
-      keys = sym (flags_end a.stay l.keys l.w l.i a.self.len (omega arith) (omega (arith, a.self.room))) ∙ v.kept_keys;
-      slots = sym (flags_end a.stay l.slots l.w l.i a.self.len (omega arith) (omega (arith, a.self.room))) ∙ v.kept_slots;
+      keys = sym (flags_end a.stay l.r.0 l.w l.i a.self.len (omega arith) (omega (arith, a.self.room))) ∙ v.kept_keys;
+      slots = sym (flags_end a.stay l.r.1.0 l.w l.i a.self.len (omega arith) (omega (arith, a.self.room))) ∙ v.kept_slots;
+    }
+
+pub invariant_of-r : goal.invariant_of-r
+invariant_of-r c =
+    let v = c.loop-i.invariant in
+    record {
+      room = omega (arith, v.low, v.high, c.args.self.room);
+      lengths = (v.key_length, v.slot_length);
+      within = v.within;
+      distinct = v.distinct;
     }

@@ -4,4 +4,4 @@ use Rattle.store.proofs.Keeping.{Keeping}
 use Rattle.store.proofs.roster.Roster.retain.Given as goal
 
 abbrev pub invariant-loop-i : goal.invariant-loop-i
-invariant-loop-i l = Keeping l.fn.self l.fn.self.len l.stay l.keys l.slots l.w l.i
+invariant-loop-i l = Keeping l.fn.self l.fn.self.len l.stay l.r.0 l.r.1.0 l.w l.i
