@@ -1,4 +1,4 @@
--- What stands at a place of an entry's edges, from its arrays side by side; and its tests of edges as one test of each, or of two of
+-- What stands at a place of an entry's edges, from its arrays side by side; and its tests of edges as one test of each, or of three of
 -- the arrays side by side.
 -- Assumes nothing.
 use Prim.Native.Nat.{ℕ, ◌+◌, ◌≤◌, ◌<◌}
@@ -11,14 +11,14 @@ use lib.Dec.{eqb}
 use lib.ListN.{length, take, drop, get_or, drop_of_length-le}
 use lib.Seq.{drop-cons, length-take-le, get_or-take, take-take}
 use Rattle.std.specs.List.{zip}
-use Rattle.lists.specs.Lists.{any, all, has, filled, total, zip_by, cut, self}
+use Rattle.lists.specs.Lists.{any, all, filled, total, zip_by, cut, self}
 use Rattle.lists.proofs.Zip.{length-zip, get_d_zip, length_cut, get_d_cut}
 use Rattle.lists.proofs.Picked.{any_picked, all_picked, filled_picked, any-kept}
 use Rattle.rules.specs.Numbers.{record_key}
 use Rattle.rules.specs.Plain.{Edge, Terms, issued, issues, owes}
 use Rattle.rules.specs.Words.{edge, with}
 use Rattle.entry.specs.declared.Entry.{Entry}
-use Rattle.entry.specs.Entry.{edges_of, terms_of, Fits}
+use Rattle.entry.specs.Entry.{edges_of, Fits}
 
 -- the destinations of the edge at a place
 abbrev pub to_at : Entry → ℕ → List ℕ
@@ -100,33 +100,16 @@ issued-any local t = filled_picked (starting local) key_of t.edges
 pub marked_all : (is_marked : ℕ → Bool) (local : ℕ) (t : Terms) → all is_marked (issued local t) ≡ not (any (waiting is_marked local) t.edges)
 marked_all is_marked local t = all_picked (starting local) key_of is_marked t.edges
 
--- a test that reads two of the arrays alone
-ends_any : (q : ℕ × ℕ → Bool) (ids froms kinds : List ℕ) (tos : List (List ℕ)) → length froms ≡ length ids → length kinds ≡ length ids → length tos ≡ length ids →
-    any (λ (g : Edge). q (g.from, g.id)) (zip_by with (zip_by with (zip_by edge ids froms) kinds) tos) ≡ any q (zip froms ids)
-ends_any q [] [] kinds tos h k l = refl
-ends_any q [] (x ∷ xs) kinds tos h k l = absurd (omega arith)
-ends_any q (i ∷ is) [] kinds tos h k l = absurd (omega arith)
-ends_any q (i ∷ is) (x ∷ xs) [] tos h k l = absurd (omega arith)
-ends_any q (i ∷ is) (x ∷ xs) (y ∷ ys) [] h k l = absurd (omega arith)
-ends_any q (i ∷ is) (x ∷ xs) (y ∷ ys) (t ∷ ts) h k l = ap (λ b. q (x, i) || b) (ends_any q is xs ys ts (omega arith) (omega arith) (omega arith))
-
-kinds_any : (q : ℕ × ℕ → Bool) (ids froms kinds : List ℕ) (tos : List (List ℕ)) → length froms ≡ length ids → length kinds ≡ length ids → length tos ≡ length ids →
-    any (λ (g : Edge). q (g.from, g.kind)) (zip_by with (zip_by with (zip_by edge ids froms) kinds) tos) ≡ any q (zip froms kinds)
-kinds_any q [] [] kinds tos h k l = refl
-kinds_any q [] (x ∷ xs) kinds tos h k l = absurd (omega arith)
-kinds_any q (i ∷ is) [] kinds tos h k l = absurd (omega arith)
-kinds_any q (i ∷ is) (x ∷ xs) [] tos h k l = absurd (omega arith)
-kinds_any q (i ∷ is) (x ∷ xs) (y ∷ ys) [] h k l = absurd (omega arith)
-kinds_any q (i ∷ is) (x ∷ xs) (y ∷ ys) (t ∷ ts) h k l = ap (λ b. q (x, y) || b) (kinds_any q is xs ys ts (omega arith) (omega arith) (omega arith))
-
-froms_any : (q : ℕ → Bool) (ids froms kinds : List ℕ) (tos : List (List ℕ)) → length froms ≡ length ids → length kinds ≡ length ids → length tos ≡ length ids →
-    any (λ (g : Edge). q g.from) (zip_by with (zip_by with (zip_by edge ids froms) kinds) tos) ≡ any q froms
-froms_any q [] [] kinds tos h k l = refl
-froms_any q [] (x ∷ xs) kinds tos h k l = absurd (omega arith)
-froms_any q (i ∷ is) [] kinds tos h k l = absurd (omega arith)
-froms_any q (i ∷ is) (x ∷ xs) [] tos h k l = absurd (omega arith)
-froms_any q (i ∷ is) (x ∷ xs) (y ∷ ys) [] h k l = absurd (omega arith)
-froms_any q (i ∷ is) (x ∷ xs) (y ∷ ys) (t ∷ ts) h k l = ap (λ b. q x || b) (froms_any q is xs ys ts (omega arith) (omega arith) (omega arith))
+-- a test that reads three of the arrays alone
+parts_any : (q : ℕ → ℕ → ℕ → Bool) (ids froms kinds : List ℕ) (tos : List (List ℕ)) → length froms ≡ length ids → length kinds ≡ length ids → length tos ≡ length ids →
+    any (λ (g : Edge). q g.from g.id g.kind) (zip_by with (zip_by with (zip_by edge ids froms) kinds) tos) ≡ any (λ (x : (ℕ × ℕ) × ℕ). q x.0.0 x.0.1 x.1) (zip (zip froms ids) kinds)
+parts_any q [] [] [] tos h k l = refl
+parts_any q [] [] (y ∷ ys) tos h k l = absurd (omega arith)
+parts_any q [] (x ∷ xs) kinds tos h k l = absurd (omega arith)
+parts_any q (i ∷ is) [] kinds tos h k l = absurd (omega arith)
+parts_any q (i ∷ is) (x ∷ xs) [] tos h k l = absurd (omega arith)
+parts_any q (i ∷ is) (x ∷ xs) (y ∷ ys) [] h k l = absurd (omega arith)
+parts_any q (i ∷ is) (x ∷ xs) (y ∷ ys) (t ∷ ts) h k l = ap (λ b. q x i y || b) (parts_any q is xs ys ts (omega arith) (omega arith) (omega arith))
 
 module _ (e : Entry) (fits : Fits e) where
   abbrev m : ℕ
@@ -138,15 +121,6 @@ module _ (e : Entry) (fits : Fits e) where
   tos : length (cut (take m e.sizes) e.to) ≡ length (take m e.ids)
   tos = cut-length e fits ∙ sym (front e fits e.ids fits.ids)
 
-  pub any-ends : (q : ℕ × ℕ → Bool) → any (λ (g : Edge). q (g.from, g.id)) (edges_of e) ≡ any q (zip (take m e.froms) (take m e.ids))
-  any-ends q = ends_any q (take m e.ids) (take m e.froms) (take m e.kinds) (cut (take m e.sizes) e.to) (as_ids e.froms fits.froms) (as_ids e.kinds fits.kinds) tos
-
-  pub any-kinds : (q : ℕ × ℕ → Bool) → any (λ (g : Edge). q (g.from, g.kind)) (edges_of e) ≡ any q (zip (take m e.froms) (take m e.kinds))
-  any-kinds q = kinds_any q (take m e.ids) (take m e.froms) (take m e.kinds) (cut (take m e.sizes) e.to) (as_ids e.froms fits.froms) (as_ids e.kinds fits.kinds) tos
-
--- the records issued by local, by the front of the from-shards
-pub issued_is : (e : Entry) (local : ℕ) → Fits e → has self local (take e.edges_len e.froms) ≡ filled (issued local (terms_of e))
-issued_is e local fits =
-    let n = e.edges_len in
-    sym (froms_any (λ x. eqb x local) (take n e.ids) (take n e.froms) (take n e.kinds) (cut (take n e.sizes) e.to) (as_ids e fits e.froms fits.froms) (as_ids e fits e.kinds fits.kinds) (tos e fits))
-    ∙ sym (issued-any local (terms_of e))
+  pub any-parts : (q : ℕ → ℕ → ℕ → Bool) →
+      any (λ (g : Edge). q g.from g.id g.kind) (edges_of e) ≡ any (λ (x : (ℕ × ℕ) × ℕ). q x.0.0 x.0.1 x.1) (zip (zip (take m e.froms) (take m e.ids)) (take m e.kinds))
+  any-parts q = parts_any q (take m e.ids) (take m e.froms) (take m e.kinds) (cut (take m e.sizes) e.to) (as_ids e.froms fits.froms) (as_ids e.kinds fits.kinds) tos

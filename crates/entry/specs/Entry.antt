@@ -97,10 +97,12 @@ pub record Means (p : plain.Entry) (e : Entry) : Type 0 where
 abbrev pub below : plain.Absence → plain.Absence → Bool
 below a b = ltb (plain.absence_key b) (plain.absence_key a)
 
--- By whatever test of from-shard and id the answers are given, r says whether some edge passes: Says is what is said of an edge that is asked
--- about.
-abbrev pub FindsEdge : (Shard → ℕ → Bool → Type 0) → Entry → Bool → Type 0
-FindsEdge Says e r = (q : ℕ × ℕ → Bool) → ((from : Shard) (id : ℕ) (b : Bool) → Says from id b → b ≡ q (from.0, id)) → r ≡ any (λ (g : plain.Edge). q (g.from, g.id)) (edges_of e)
+-- By whatever test of from-shard, id and kind the answers are given, r says whether some edge passes: Says is what is said of an edge that is
+-- asked about.
+abbrev pub FindsEdge : (Shard → ℕ → ℕ → Bool → Type 0) → Entry → Bool → Type 0
+FindsEdge Says e r =
+    (q : ℕ → ℕ → ℕ → Bool) → ((from : Shard) (id kind : ℕ) (b : Bool) → Says from id kind b → b ≡ q from.0 id kind) →
+    r ≡ any (λ (g : plain.Edge). q g.from g.id g.kind) (edges_of e)
 
 abbrev pub is_marked : Entry → ℕ → Bool
 is_marked e r = has self r (take e.marks_len e.marks)

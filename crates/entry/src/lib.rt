@@ -1,7 +1,7 @@
 // An entry: one transaction that is owed an ending (the Rust's `Owed`), and what each kind of call asks and changes of it.
 #![tactic(auto)]
 
-ghost use Rattle.std.specs.Prelude.{◌≡◌, ◌<◌, MatchResult, ◌&&◌, ◌||◌, true, ◌≤◌, eqb, leb, length, take};
+ghost use Rattle.std.specs.Prelude.{◌≡◌, ◌<◌, MatchResult, ◌&&◌, ◌||◌, true, ◌≤◌, eqb, leb, ltb, length, take};
 ghost use Rattle.lists.specs.Lists.{all, has, include, self as itself, filled};
 ghost use Rattle.rules.specs.Numbers.{record_key};
 
@@ -146,7 +146,7 @@ impl TryFrom<u64> for Certificate {
 
 #[tactic(auto, using(crate::proofs::Shape::fits_of), unfolding(crate::specs::Entry::plain_entry))]
 impl Entry {
-    ghost use Rattle.rules.specs.Plain.{is_covered, issued, issues, owes, remote, remainder};
+    ghost use Rattle.rules.specs.Plain.{is_core, is_covered, issued, issues, owes, remote, remainder};
     ghost use Rattle.rules.specs.Entries.{certified, with_departed_by, with_part, with_marks, marked, read_absent, is_read, is_closed};
     ghost use Rattle.rules.specs.Good.{GoodEntry};
     ghost use Rattle.entry.specs.Entry.{plain_entry, plain_absence, certificate_number, absence, is_marked, FindsEdge, Blank, Means, RoomForAbsence, RoomForMark};
@@ -203,6 +203,13 @@ impl Entry {
         e
     }
 
+    // A core that no certificate by execution speaks for.
+    pub fn is_awaiting(&self) -> bool
+        ensures { result ≡ (is_core (plain_entry self.now).part && ltb (plain_entry self.now).certificate 2) }
+    {
+        self.part.is_core() && self.certified < Certificate::ByExecution
+    }
+
     // Whether a record names it or a cell was read absent for it.
     pub fn covered(&self) -> bool
         ensures { result ≡ is_covered (plain_entry self.now) }
@@ -210,34 +217,31 @@ impl Entry {
         self.departed_by.0 > 0 || self.absences_len > 0
     }
 
-    // Whether some edge's from-shard and id pass.
-    pub fn has_edge<F: Fn(Shard, u64) -> bool>(&self, passes: F) -> bool
-        requires { (from : _) (id : _) → F.pre passes from id }
+    // Whether some edge passes by its from-shard, id and kind.
+    pub fn has_edge<F: Fn(Shard, u64, u8) -> bool>(&self, passes: F) -> bool
+        requires { F.IsAlwaysCallable passes }
         ensures { FindsEdge (F.post passes) self.now result }
     {
         let n = self.edges_len as usize;
         self.froms[..n]
             .iter()
             .zip(&self.ids[..n])
-            .any(|(from, id)| passes(Shard(*from), *id))
+            .zip(&self.kinds[..n])
+            .any(|((from, id), kind)| passes(Shard(*from), *id, *kind))
     }
 
     // Whether an edge from local has this record key.
     pub fn issues(&self, local: Shard, r: RecordKey) -> bool
         ensures { result ≡ issues local.0 r.0 (plain_entry self.now).terms }
     {
-        self.has_edge(|from, id| is_issue(from, id, local, r))
+        self.has_edge(|from, id, _| is_issue(from, id, local, r))
     }
 
     // Whether an edge from local is owed.
     pub fn owes(&self, local: Shard) -> bool
         ensures { result ≡ owes local.0 (plain_entry self.now).terms }
     {
-        let n = self.edges_len as usize;
-        self.froms[..n]
-            .iter()
-            .zip(&self.kinds[..n])
-            .any(|(from, kind)| *from == local.0 && *kind == 1)
+        self.has_edge(|from, _, kind| from == local && kind == 1)
     }
 
     // Whether local does not own some route of it.
@@ -325,19 +329,17 @@ impl Entry {
     }
 
     // Whether an edge starts from local.
-    #[tactic(auto, using(crate::proofs::Shape::fits_of, crate::proofs::Edges::issued_is), unfolding(crate::specs::Entry::plain_entry))]
     fn has_issued(&self, local: Shard) -> bool
         ensures { result ≡ filled (issued local.0 (plain_entry self.now).terms) }
     {
-        let n = self.edges_len as usize;
-        contains(&self.froms[..n], local.0)
+        self.has_edge(|from, _, _| from == local)
     }
 
     // Whether each record that it issued is marked.
     fn all_marked(&self, local: Shard) -> bool
         ensures { result ≡ all (is_marked self.now) (issued local.0 (plain_entry self.now).terms) }
     {
-        !self.has_edge(|from, id| from == local && !self.has_mark(types::record_key(id)))
+        !self.has_edge(|from, id, _| from == local && !self.has_mark(types::record_key(id)))
     }
 
     // Whether all that it issued, which is something, is settled or returned.

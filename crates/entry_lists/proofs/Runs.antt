@@ -1,19 +1,14 @@
 -- A loop that writes items one behind the other: what is written, with the items still to come, is the whole run.
 -- Assumes nothing.
-use Prim.Native.Nat.{ℕ, suc, ◌+◌, ◌*◌, ◌≤◌, ◌<◌}
+use Prim.Native.Nat.{ℕ, ◌+◌, ◌*◌, ◌≤◌, ◌<◌}
 use mathlib.Core.Path.{◌≡◌, refl, sym, ap, ◌∙◌}
 use mathlib.Core.Bool.{Bool, true, false}
 use mathlib.Core.List.{List, [], ◌∷◌, ◌++◌, append-nil}
-use native.Mathlib.Numerals.{add-one}
 use native.Mathlib.Omega.{arith}
 use borrow.Author.Tests.{lt-ltb, le-ltb}
-use lib.ListN.{length, take, drop, length-append, length-set}
-use borrow.Rule.Slice.PartMut.{put_mid}
-use Rattle.std.proofs.lemmas.Slice.{put_mid-paste}
+use lib.ListN.{length, take, drop, length-append}
 use Rattle.std.proofs.Math.Nat.{mul-le-mul_left}
-use Rattle.std.proofs.lemmas.List.{append_assoc}
-use Rattle.std.proofs.lemmas.List.Edits.{paste_all}
-use lib.Seq.{sets, sets-eq, length-sets, take_all, take-append-le}
+use lib.Seq.{sets, length-sets, take_all, take-append-le}
 use Rattle.lists.specs.Lists.{concat_map}
 use Rattle.lists.proofs.Keep.{concat_map-append}
 use Rattle.lists.proofs.Listing.{length-words, sets_append, sets_front}
@@ -108,19 +103,6 @@ module _ {A : Type 0} (words : A → List ℕ) (k : ℕ) (each : (x : A) → len
         answer = rw t (omega (arith, h.end));
         wrote = rw t (h.wrote ∙ ap (λ i. sets lent i all) start ∙ sets_front lent all size);
       })
-
--- the words of an item, those of its transaction put down and then the others behind them
-pub words_put : (l m ys : List ℕ) (t n : ℕ) (others : List ℕ) (k : ℕ) → m ≡ sets l n (t ∷ []) → ys ≡ others → n + 1 + length others ≤ length l → k ≡ length others →
-    put_mid (n + 1) k m ys ≡ sets l n (t ∷ others)
-words_put l m ys t n others k p e b q =
-    let size : length m ≡ length l = ap length p ∙ length-set l n t in
-    put_mid-paste (n + 1) k m ys others k e refl q
-    ∙ paste_all m (n + 1) others k q
-    ∙ ap (λ i. take (n + 1) m ++ (others ++ drop (n + 1 + i) m)) q
-    ∙ sym (append_assoc (take (n + 1) m) others (drop (n + 1 + length others) m))
-    ∙ sym (sets-eq others m (n + 1) (omega (arith, size)))
-    ∙ ap (λ i. sets m i others) (add-one n)
-    ∙ ap (λ x. sets x (suc n) others) p
 
 -- so many items of one size are within the room for forty-eight
 pub within : (k n m : ℕ) → n ≤ 48 → 48 * k ≤ m → k * n ≤ m

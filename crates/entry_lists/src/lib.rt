@@ -27,17 +27,6 @@ use types::refusal::Refusal;
 use types::widths::{ISSUER_WORDS, ISSUERS_ROOM, QUESTION_WORDS, TERM_WORDS, TERMS_ROOM};
 use types::{Shard, Time, Transaction};
 
-// An item put down at a place: the words of its transaction, and then a row of others.
-#[tactic(auto, using(crate::proofs::Runs::words_put))]
-fn put_item(tx: Transaction, row: &[u64], words: &mut [u64], at: usize)
-    requires { at + transaction_size + length row.now ≤ length words.old }
-    ensures { words.new ≡ sets words.old at (transaction_words (number_of tx) ++ row.now) }
-{
-    tx.put(words, at);
-    let from = at + 1;
-    words[from..from + row.len()].copy_from_slice(row);
-}
-
 // Whether the entry asks: an uncovered core.
 #[tactic(auto, unfolding(entry::specs::Entry::plain_entry))]
 fn is_asking(e: &Entry) -> bool
@@ -57,7 +46,7 @@ fn put_questions(e: &Entry, local: Shard, from: usize, words: &mut [u64]) -> usi
         if *shard != local.0 {
             let key = types::cell_key(e.tx, e.end, Shard(*shard));
             let row = [*shard, key, e.at.0, e.end.0];
-            put_item(e.tx, &row, words, QUESTION_WORDS * count);
+            e.tx.put_item(&row, words, QUESTION_WORDS * count);
             count += 1;
         }
     }
@@ -118,11 +107,10 @@ pub fn questions(ledger: Ledger, lent: &mut [u64]) -> Result<u64, Refusal>
 // Whether the entry is past its deadline and no settlement ends it.
 #[tactic(auto, unfolding(entry::specs::Entry::plain_entry))]
 fn is_past(e: &Entry, validity: u64, time: Time) -> bool
-    requires { (e.now.at.0 < 2 ^ 48) × (validity < 2 ^ 48) }
     ensures { result ≡ is_past validity time.0 (plain_entry e.now) }
 {
     let is_unexecuted = e.certified < Certificate::ByExecution;
-    let is_held = e.covered() || is_unexecuted || time.0 < e.at.0 + validity;
+    let is_held = e.covered() || is_unexecuted || time.is_before(e.at, validity);
     !e.part.is_settling() && e.at <= time && is_held
 }
 
@@ -135,7 +123,7 @@ fn gather<R: AsSlice<u64> + Copy, F: Fn(&Entry) -> Option<R>>(
     words: &mut [u64],
 ) -> usize
     requires held { Held ledger.now }
-    requires callable { (e : _) → GoodEntry ledger.now.local.0 (plain_entry e.now) → F.pre row_of e }
+    requires callable { (e : _) → F.pre row_of e }
     requires sizes { (e : _) (r : R) → F.post row_of e (Some r) → length (R.items r) + 1 ≡ size }
     requires room { max_entries * size ≤ length words.old }
     ensures few { result ≤ max_entries }
@@ -145,7 +133,7 @@ fn gather<R: AsSlice<u64> + Copy, F: Fn(&Entry) -> Option<R>>(
     for slot in &ledger.roster.slots[..ledger.roster.len] {
         let e = &ledger.entries[*slot];
         if let Some(row) = row_of(e) {
-            put_item(e.tx, row.as_slice(), words, size * count);
+            e.tx.put_item(row.as_slice(), words, size * count);
             count += 1;
         }
     }
@@ -172,7 +160,7 @@ pub fn past_deadline(ledger: Ledger, time: Time, lent: &mut [u64]) -> Result<u64
 fn issues_id(e: &Entry, local: Shard, id: u64) -> bool
     ensures { result ≡ holds_id local.0 id (plain_entry e.now) }
 {
-    e.has_edge(|from, held| from == local && held == id)
+    e.has_edge(|from, held, _| from == local && held == id)
 }
 
 // Those that issued this very id. An edge from local that has the id is in the index under the id's key, which is thus not asked.

@@ -25,7 +25,7 @@ fn is_over(led: u64, d: Seen, anchor: Time) -> bool
 fn counts_before(cut: Time, shard: Shard, best: Time, lowest: Shard) -> bool
     ensures { result ≡ (ltb cut.0 best.0 || (eqb cut.0 best.0 && leb shard.0 lowest.0)) }
 {
-    cut < best || (cut == best && shard <= lowest)
+    (cut, shard) <= (best, lowest)
 }
 
 // Whether a departure is over the route and counts before the best so far.

@@ -2,7 +2,6 @@
 ghost use Rattle.std.specs.Prelude.{◌≡◌, ◌&&◌, ◌||◌, true, ltb};
 ghost use Rattle.lists.specs.Lists.{filled};
 ghost use Rattle.rules.specs.Plain.{is_core, is_settling};
-ghost use Rattle.rules.specs.Numbers.{is_time, is_span};
 ghost use Rattle.entry.specs.Entry.{plain_entry};
 ghost use Rattle.judge.specs.Verdict.{unless, RuledByRoutes, Judged};
 
@@ -26,14 +25,6 @@ fn unless(stands: bool, fall: Verdict) -> Verdict
     if stands { Verdict::Stands } else { fall }
 }
 
-// Rule 1: core with no certificate by execution.
-#[tactic(auto, unfolding(entry::specs::Entry::plain_entry))]
-fn is_awaiting(e: &Entry) -> bool
-    ensures { result ≡ (is_core (plain_entry e.now).part && ltb (plain_entry e.now).certificate 2) }
-{
-    e.part.is_core() && e.certified < Certificate::ByExecution
-}
-
 // Rule 2: leg, remainder or any absence.
 #[tactic(auto, unfolding(entry::specs::Entry::plain_entry))]
 fn is_settling(e: &Entry) -> bool
@@ -44,14 +35,12 @@ fn is_settling(e: &Entry) -> bool
 
 // Rules 4 and 5, of an entry that no record names and that has no absence.
 fn by_routes(e: &Entry, local: Shard, validity: u64, time: Time, view: &View) -> Verdict
-    requires at_value { is_time e.now.at.0 ≡ true }
-    requires validity_value { is_span validity ≡ true }
     ensures { RuledByRoutes view.now time.0 local.0 validity (plain_entry e.now) result }
 {
     if e.certified != Certificate::Missing && e.reaches_beyond(local) {
         return unless(routes::is_answerable(e, local, view), Verdict::Reported(0));
     }
-    unless(time.0 < e.at.0 + validity, Verdict::Falls)
+    unless(time.is_before(e.at, validity), Verdict::Falls)
 }
 
 // The verdict on an entry at a clock, by the first rule that fits.
@@ -63,20 +52,17 @@ pub fn judge(
     time: Time,
     view: &View,
 ) -> Verdict
-    requires at_value { is_time e.now.at.0 ≡ true }
-    requires validity_value { is_span validity ≡ true }
-    requires leg_span_value { is_span leg_span ≡ true }
     ensures { Judged view.now time.0 local.0 validity leg_span (plain_entry e.now) result }
 {
     let departed_by = e.departed_by;
     let settles = is_settling(e);
     let named = 0 < departed_by.0;
     let by_window = settles; // rule 2, ahead of rule 3
-    if is_awaiting(e) {
-        return Verdict::Stands;
+    if e.is_awaiting() {
+        return Verdict::Stands; // rule 1
     }
     if by_window {
-        return unless(time.0 < e.at.0 + leg_span, Verdict::Falls);
+        return unless(time.is_before(e.at, leg_span), Verdict::Falls);
     }
     if named {
         return unless(view.has_readable(departed_by), Verdict::Reported(1));

@@ -68,15 +68,6 @@ module _ {A : Type 0} (key : A → ℕ) where
       every [] = tt
       every (x ∷ m) = ((λ q. ap (λ k. eqb k u) q), every m)
 
-  -- what is got is one of them
-  pub every_get : (P : A → Type 0) (t : ℕ) (l : List A) (x : A) → get key t l ≡ some x → Every P l → P x
-  every_get P t [] x q v = absurd (let z : ◌≡◌ {A = ℕ} 0 1 = cc in omega arith)
-  every_get P t (y ∷ l) x q v = go (eqb (key y) t) q (every_get P t l x)
-    where
-      go : (b : Bool) → cond b (some y) (get key t l) ≡ some x → (get key t l ≡ some x → Every P l → P x) → P x
-      go true q' ih = let e : x ≡ y = cc in rw e v.0
-      go false q' ih = ih q' v.1
-
 -- Of a rising list of numbers, how many are not known, with one number put in: as many as before where it is known, else one
 -- more than are then not known.
 module _ (known : ℕ → Bool) where

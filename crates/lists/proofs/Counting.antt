@@ -9,11 +9,6 @@ use lib.ListN.{length, take, drop, get_or, set, replicate, length-map}
 use lib.Seq.{drop-cons, take-suc, take-suc-set, length-take-le}
 use Rattle.lists.specs.Lists.{Every}
 
--- what f reads off a list stands in the front of an array
-module _ {A B : Type 0} (f : A → B) (a : List B) (n : ℕ) (l : List A) (h : n ≤ length a) (e : take n a ≡ map f l) where
-  pub front_length : length l ≡ n
-  front_length = sym (simp length-map) ∙ ap length (sym e) ∙ length-take-le n a h
-
 -- one more is read off into the front
 pub fill_one : {A B : Type 0} (f : A → B) (a : List B) (l : List A) (i : ℕ) (d : A) (y : B) → i < length a → i < length l → y ≡ f (get_or l i d) →
     take i a ≡ map f (take i l) → take (i + 1) (set a i y) ≡ map f (take (i + 1) l)

@@ -29,18 +29,10 @@ rest_tail s i x t e = sym (drop-drop 1 i s) ∙ ap (drop 1) e
 
 -- a test of each: all p (what is to come) stays
 
-pub all_end : {A : Type 0} (p : A → Bool) (s : List A) (i : ℕ) → length s ≤ i → all p (drop i s) ≡ true
-all_end p s i h = rw (rest-none s i h)
-
 pub all-at : {A : Type 0} (p : A → Bool) (d : A) (s : List A) (i : ℕ) → i < length s → all p s ≡ true → p (get_or s i d) ≡ true
 all-at p d [] i h t = absurd (omega arith)
 all-at p d (x ∷ s) zero h t = and_left (p x) (all p s) t
 all-at p d (x ∷ s) (suc i) h t = all-at p d s i (omega arith) (and_right (p x) (all p s) t)
-
--- a test of some: any p (what is to come) stays
-
-pub any-passed : {A : Type 0} (p : A → Bool) (d : A) (s : List A) (i : ℕ) → i < length s → p (get_or s i d) ≡ false → any p (drop (i + 1) s) ≡ any p (drop i s)
-any-passed p d s i h t = rw (rest_more d s i h, t)
 
 -- tests of two rows of tests are the tests of both in a row
 

@@ -16,11 +16,6 @@ use Rattle.lists.proofs.Maps.{map-set}
 
 -- two arrays side by side
 module _ {A B C : Type 0} (f : A → B → C) where
-  pub zip_length : (l : List A) (m : List B) → length l ≡ length m → length (zip_by f l m) ≡ length l
-  zip_length [] m h = refl
-  zip_length (x ∷ l) [] h = absurd (omega arith)
-  zip_length (x ∷ l) (y ∷ m) h = ap suc (zip_length l m (omega arith))
-
   pub zip-take : (n : ℕ) (l : List A) (m : List B) → take n (zip_by f l m) ≡ zip_by f (take n l) (take n m)
   zip-take zero [] m = refl
   zip-take zero (x ∷ l) [] = refl

@@ -44,11 +44,6 @@ module _ {A B C : Type 0} (f : A → B → C) (xs : List A) (ys : List B) (n : �
   insert-pairs i a b us vs l p q =
       rw (p, q) (insert-zip f i a b (take n xs) (take n ys) (omega (arith, length-take-le n xs h)) (omega (arith, length-take-le n ys k)))
 
--- what a loop over such a list cites at its turn and at its end: what is still to come is x and more, or nothing
-module _ {A : Type 0} (p : A → Bool) (x : A) (i : ℕ) (l : List A) where
-  pub any-passed : drop i l ≡ x ∷ drop (i + 1) l → p x ≡ false → any p (drop (i + 1) l) ≡ any p (drop i l)
-  any-passed e t = rw (e, t)
-
 pub length_cut : (sizes l : List ℕ) → length (cut sizes l) ≡ length sizes
 length_cut [] l = refl
 length_cut (n ∷ ns) l = ap suc (length_cut ns (drop n l))

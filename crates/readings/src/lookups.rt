@@ -29,7 +29,7 @@ pub struct Question {
 fn is_abandonable(e: &Entry) -> bool
     ensures { result ≡ abandonment_answers (plain_entry e.now) }
 {
-    e.part.is_core() && e.certified < Certificate::ByExecution && e.departed_by.0 == 0
+    e.is_awaiting() && e.departed_by.0 == 0
 }
 
 // Whether the transaction's entry passes, yes as 1 and no as 0; no for one that is not owed.
@@ -138,15 +138,14 @@ pub fn open_at(ledger: Ledger, q: Question, time: Time) -> Result<u64, Refusal>
     ensures { Reads (read (open_at (number_of q.tx) q.shard.0 q.key q.at.0 q.end.0 time.0) (contents ledger)) [] [] result }
 {
     q.check(time)?;
-    Ok(u64::from(q.at.passed(time)))
+    Ok(u64::from(q.at <= time))
 }
 
-// Read absent, in the window [at, at + span).
+// Read absent, in the window [at, at + span). What was read is the word as it comes in.
 fn is_absent(at: Time, span: u64, read_at: Time, inclusion: u64) -> bool
-    requires { (at.0 < 2 ^ 48) × (span < 2 ^ 48) }
     ensures { result ≡ eqb inclusion 0 && (leb at.0 read_at.0 && ltb read_at.0 (at.0 + span)) }
 {
-    inclusion == 0 && (at.0 <= read_at.0 && read_at.0 < at.0 + span)
+    inclusion == 0 && (at <= read_at && read_at.is_before(at, span))
 }
 
 // Whether what was read (0 absent, 1 present) answers the question: absent, in its own window, its transaction owed.

@@ -8,7 +8,8 @@ use native.Mathlib.Omega.{arith}
 use lib.ListN.{length, take, get_or}
 use lib.Seq.{length-take-le, get_or-take}
 use Rattle.lists.specs.Lists.{zip_by}
-use Rattle.lists.proofs.Pairs.{zip_length, zip-take, zip_get_d}
+use Rattle.lists.proofs.Pairs.{zip-take, zip_get_d}
+use Rattle.lists.proofs.Zip.{length-zip}
 use Rattle.rules.specs.Index.{Pair}
 use Rattle.store.specs.Issuers.{pair, pairs_in}
 use Rattle.store.specs.declared.issuers.Issuers.{Issuers}
@@ -24,7 +25,7 @@ module _ (x : Issuers) where
   same = x.lengths.0 ∙ sym x.lengths.1
 
   sides_length : length (sides x) ≡ 384
-  sides_length = zip_length pair x.records x.transactions same ∙ x.lengths.0
+  sides_length = length-zip pair x.records x.transactions same ∙ x.lengths.0
 
   sides_at : (i d e : ℕ) → get_or (sides x) i (pair d e) ≡ pair (get_or x.records i d) (get_or x.transactions i e)
   sides_at i d e = zip_get_d pair x.records x.transactions i d e same

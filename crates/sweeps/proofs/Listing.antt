@@ -5,7 +5,7 @@ use mathlib.Core.Path.{◌≡◌, refl, sym, ap, ◌∙◌}
 use mathlib.Core.Bool.{Bool, true, false, cond, not}
 use mathlib.Core.List.{List, [], ◌∷◌, ◌++◌, map}
 use native.Mathlib.Omega.{arith}
-use native.Mathlib.Numerals.{add-one, add-two}
+use native.Mathlib.Numerals.{add-two}
 use borrow.Author.Tests.{lt-ltb, le-ltb}
 use lib.ListN.{length, take, drop, get_or, set, length-set}
 use lib.Seq.{sets}
@@ -13,7 +13,7 @@ use Rattle.std.specs.Int.{from_bool}
 use Rattle.lists.specs.Lists.{cons_if, keep, concat_map}
 use Rattle.lists.proofs.Keep.{length-keep}
 use Rattle.lists.proofs.Listing.{sets_front}
-use Rattle.lists.proofs.Loops.{rest-cons, rest_end}
+use Rattle.lists.proofs.Loops.{rest-cons}
 use Rattle.lists.proofs.Counting.{fill_next}
 use Rattle.rules.specs.Plain as plain
 use Rattle.rules.specs.Plain.{transaction_of, with_entries}
@@ -104,15 +104,15 @@ module _ (l : Ledger) (h : Held l) (stay : List Bool) (lent₀ lent : List ℕ) 
     next : listing l stay i ≡ cond (get_or stay i false) (listing l stay (i + 1)) (get_or l.roster.keys i 0 ∷ closing_decision (plain_entry (here l h i q d)) ∷ listing l stay (i + 1))
     next = rw (rest-cons false stay i l.roster.len q k, rest-cons 0 l.roster.keys i l.roster.len q (omega (arith, l.roster.room, l.roster.lengths.0)), cons l h i q d)
 
-    pub list_one : (code : ℕ) (put : List ℕ) → get_or stay i false ≡ false → put ≡ set lent at (get_or l.roster.keys i 0) → code ≡ closing_decision (plain_entry (here l h i q d)) →
-        Listing l stay lent₀ (set put (at + 1) code) (at + 2) (i + 1)
+    pub list_one : (code : ℕ) (put : List ℕ) → get_or stay i false ≡ false → put ≡ sets lent at (get_or l.roster.keys i 0 ∷ code ∷ []) → code ≡ closing_decision (plain_entry (here l h i q d)) →
+        Listing l stay lent₀ put (at + 2) (i + 1)
     list_one code put t w c =
         let e : listing l stay i ≡ get_or l.roster.keys i 0 ∷ code ∷ listing l stay (i + 1) = next ∙ rw (t, c) in
         record {
           high = omega arith;
           small = omega (arith, v.small);
           same = rw w (simp length-set v.same);
-          rest = rw (w, add-one, add-two) (rw e at v.rest);
+          rest = rw (w, add-two) (rw e at v.rest);
           size = omega (arith, rw e at v.size);
         }
 
@@ -127,9 +127,6 @@ module _ (l : Ledger) (h : Held l) (stay : List Bool) (lent₀ lent : List ℕ) 
       let d = some_entry l.entries l.slots in
       let e : listing l stay i ≡ get_or l.roster.keys i 0 ∷ closing_decision (plain_entry (here l h i q d)) ∷ listing l stay (i + 1) = next q d ∙ rw t in
       omega (arith, v.size, ap length e)
-
-  pub list_end : l.roster.len ≤ i → lent ≡ sets lent₀ 0 (listed l stay)
-  list_end q = rw (rest_end stay i l.roster.len q k) at v.rest
 
 -- the words of those that close
 listed-closed : (local : ℕ) (es : List plain.Entry) →

@@ -12,7 +12,7 @@ use lib.Seq.{sets}
 use Rattle.lists.specs.Lists.{keep, keep_by, any, concat_map, Every}
 use Rattle.lists.proofs.Keep.{length-keep}
 use Rattle.lists.proofs.Distinct.{keep_by_test}
-use Rattle.rules.specs.Numbers.{is_time, is_shard, is_span}
+use Rattle.rules.specs.Numbers.{is_time}
 use Rattle.rules.specs.Plain as plain
 use Rattle.rules.specs.Prune.{Report, stands, rule_of, is_reported, report_of, report_words, holds, remains, survivors, fallen, reports, pruned}
 use Rattle.rules.specs.Outcome.{Outcome, ◌gives◌then◌}
@@ -93,18 +93,6 @@ module _ (l : Ledger) (h : Held l) (now : ℕ) where
   pub pass_none : JudgingIn l now begun 0
   pass_none = judging_none (stands (contents l) now) (reporting l now) (row_of l now) (holding l now) (entries_of l) (on_file l.departures) file-few
 
-  pub local-good : is_shard l.local.0 ≡ true
-  unfolding contents
-  local-good = h.good.frame.local
-
-  pub validity-good : is_span l.validity ≡ true
-  unfolding contents
-  validity-good = h.good.frame.validity
-
-  pub leg-good : is_span l.leg_span ≡ true
-  unfolding contents
-  leg-good = h.good.frame.leg_span
-
   pub file-good : Every GoodDeparture (on_file l.departures)
   unfolding contents
   file-good = h.good.departures.rows.each
@@ -116,10 +104,6 @@ module _ (l : Ledger) (h : Held l) (now : ℕ) where
 
     cons : drop i (entries_of l) ≡ plain_entry here ∷ drop (i + 1) (entries_of l)
     cons = (entry_at l h i q).next d
-
-    pub here_timed : is_time here.at.0 ≡ true
-    unfolding plain_entry
-    here_timed = ((entry_at l h i q).good d).terms.at
 
     module _ (v : View) (s : Shows (on_file l.departures) now v) (x : Verdict)
         (said : (p : plain.Plain) → Faces p now l.local.0 l.validity l.leg_span v → Says x p now (plain_entry here)) (r : Pruning) (k : JudgingIn l now r i) where

@@ -56,8 +56,8 @@ fn list_closed(ledger: &Ledger, stay: &[bool; 48], lent: &mut [u64])
     for i in 0..ledger.roster.len {
         if !stay[i] {
             let slot = ledger.roster.slots[i];
-            Transaction(ledger.roster.keys[i]).put(lent, at);
-            lent[at + 1] = decision(ledger.entries[slot].returned);
+            let row = [decision(ledger.entries[slot].returned)];
+            Transaction(ledger.roster.keys[i]).put_item(&row, lent, at);
             at += CLOSE_WORDS;
         }
     }

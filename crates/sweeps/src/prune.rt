@@ -52,22 +52,6 @@ fn some_down(flags: &[bool]) -> bool
     flags.iter().any(|is_up| !*is_up)
 }
 
-// A report's words put down at a place.
-fn put_report(
-    words: &mut [u64; REPORTS_ROOM],
-    at: usize,
-    tx: Transaction,
-    covered: u64,
-    charge: u64,
-)
-    requires { at + report_size ≤ length words.old }
-    ensures { words.new ≡ sets words.old at (transaction_words (number_of tx) ++ covered ∷ charge ∷ []) }
-{
-    tx.put(words, at);
-    words[at + 1] = covered;
-    words[at + 2] = charge;
-}
-
 impl Pruning {
     fn begun() -> Pruning
         ensures { result ≡ begun }
@@ -105,7 +89,7 @@ impl Pruning {
                 Verdict::Falls => p.fallen += 1,
                 Verdict::Reported(covered) => {
                     let at = REPORT_WORDS * p.reports;
-                    put_report(&mut p.words, at, e.tx, covered, e.charge);
+                    e.tx.put_item(&[covered, e.charge], &mut p.words, at);
                     p.reports += 1;
                     p.fallen += 1;
                 }

@@ -5,7 +5,7 @@
 pub mod refusal;
 pub mod widths;
 
-ghost use Rattle.std.specs.Prelude.{◌≡◌, ◌+◌, ◌≤◌, true, length, ◌/◌, ◌^◌, nat_le};
+ghost use Rattle.std.specs.Prelude.{◌≡◌, ◌+◌, ◌≤◌, ◌++◌, true, ltb, length, ◌/◌, ◌^◌, nat_le};
 ghost use Rattle.std.proofs.lemmas.List.Edits.{sets};
 ghost use Rattle.lists.specs.Lists.{has, self as itself};
 ghost use Rattle.rules.specs.Numbers.{is_time, is_shard, is_span, depth, owns, shard_for_route, record_key, cell_key};
@@ -48,11 +48,14 @@ pub fn is_span(n: u64) -> bool
 }
 
 impl Time {
-    // Whether a deadline at this time has passed: from it on.
-    pub fn passed(self, time: Time) -> bool
-        ensures { result ≡ nat_le self.0 time.0 }
+    // Whether it lies before the end of a span from a start on. A sum past the largest word is past every time.
+    pub fn is_before(self, start: Time, span: u64) -> bool
+        ensures { result ≡ ltb self.0 (start.0 + span) }
     {
-        self <= time
+        match start.0.checked_add(span) {
+            Some(end) => self.0 < end,
+            None => true,
+        }
     }
 }
 
@@ -70,6 +73,17 @@ impl Transaction {
         ensures { words.new ≡ sets words.old at (transaction_words (number_of self)) }
     {
         words[at] = self.0;
+    }
+
+    // An item put down at a place: its words, and then a row of others.
+    #[tactic(auto, using(crate::proofs::Items::words_put))]
+    pub fn put_item(self, row: &[u64], words: &mut [u64], at: usize)
+        requires { at + transaction_size + length row.now ≤ length words.old }
+        ensures { words.new ≡ sets words.old at (transaction_words (number_of self) ++ row.now) }
+    {
+        self.put(words, at);
+        let from = at + 1;
+        words[from..from + row.len()].copy_from_slice(row);
     }
 
     // Whether it is one of those that the words are.

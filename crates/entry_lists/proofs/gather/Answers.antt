@@ -12,11 +12,6 @@ use Rattle.entry_lists.proofs.Runs.{passed_by, put_one, ended, within}
 use Rattle.entry_lists.proofs.gather.Goals as goal
 use Rattle.entry_lists.proofs.gather.Goals.{in-Some, in_default}
 
-pub row_of-requires : goal.row_of-requires
-row_of-requires g c =
-    let t = at_turn c.args.ledger.now c.requires.held c.loop-slot.slot-index (omega arith) in
-    c.requires.callable _ (t.good _)
-
 pub loop-slot-preserved : goal.loop-slot-preserved
 unfolding plain_entry
 loop-slot-preserved g c =

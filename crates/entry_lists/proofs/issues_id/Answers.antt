@@ -10,5 +10,5 @@ pub returns : goal.returns
 unfolding plain_entry
 returns c =
     let a = c.args in
-    c.has_edge.ensures (λ x. eqb x.0 a.local.0 && eqb x.1 a.id) (λ from held b k. search (rules, tests))
+    c.has_edge.ensures (λ from held kind. eqb from a.local.0 && eqb held a.id) (λ from held kind b k. search (rules, tests))
     ∙ sym (any-kept (λ (g : Edge). eqb g.id a.id) (starting a.local.0) (edges_of a.e.now))

@@ -1,20 +1,13 @@
 -- What was gathered is written out.
-use Rattle.std.proofs.Common.{refl, sym, ap, not, ◌∙◌, rules, tests, ◌∷◌, [], ltb-true}
+use Rattle.std.proofs.Common.{refl, sym, ap, not, ◌∙◌, rules, tests, ◌∷◌, []}
 use Rattle.rules.specs.Plain as plain
 use Rattle.rules.specs.Readings.{past_deadline, term_words}
 use Rattle.entry.specs.Entry.{plain_entry}
 use Rattle.ledger.specs.Contents.{contents}
 use Rattle.readings.proofs.Looked.{goes_on}
 use Rattle.entry_lists.specs.Tests.{is_past}
-use Rattle.entry_lists.proofs.ByEntry.{validity-small}
 use Rattle.entry_lists.proofs.Runs.{reads-run, picked}
 use Rattle.entry_lists.proofs.past_deadline.Goals as goal
-
-pub gather-n-requires-clause-callable : goal.gather-n-requires-clause-callable
-unfolding plain_entry
-gather-n-requires-clause-callable c =
-    let v = validity-small c.args.ledger c.requires in
-    λ e g. (let b = ltb-true _ _ g.terms.at in search (rules, v, b))
 
 pub returns : goal.returns
 unfolding contents past_deadline plain_entry

@@ -10,5 +10,5 @@ unfolding plain_entry
 returns c =
     let a = c.args in
     let e = a.self.now in
-    ap not (c.has_edge.ensures (λ x. eqb x.0 a.local.0 && not (is_marked e (record_key x.1))) (λ from id b k. search (rules, tests)))
+    ap not (c.has_edge.ensures (λ from id kind. eqb from a.local.0 && not (is_marked e (record_key id))) (λ from id kind b k. search (rules, tests)))
     ∙ sym (marked_all (is_marked e) a.local.0 (plain_entry e).terms)

@@ -9,5 +9,5 @@ pub returns : goal.returns
 unfolding plain_entry
 returns c =
     let a = c.args in
-    c.has_edge.ensures (λ x. eqb x.0 a.local.0 && eqb (record_key x.1) a.r.0) (λ from id b k. search (rules, tests))
+    c.has_edge.ensures (λ from id kind. eqb from a.local.0 && eqb (record_key id) a.r.0) (λ from id kind b k. search (rules, tests))
     ∙ sym (issues-any a.local.0 a.r.0 (plain_entry a.self.now).terms)

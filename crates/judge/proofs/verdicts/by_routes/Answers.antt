@@ -1,5 +1,7 @@
 -- The two tests are rule 4's.
-use Rattle.std.proofs.Common.{◌≡◌, ◌∙◌, refl, sym, true, false, ltb, rules, tests}
+use Rattle.std.proofs.Common.{◌≡◌, ◌∙◌, refl, sym, ap, true, false, ltb, rules, tests}
+use Rattle.judge.specs.declared.verdicts.Verdict.TheVariants.{Falls}
+use Rattle.judge.specs.Verdict.{unless}
 use Rattle.entry.specs.Entry.{plain_entry, certificate_number}
 use Rattle.judge.proofs.Judging.{by_answering, by_no_certificate, by_no_remote}
 use Rattle.judge.proofs.verdicts.by_routes.Goals as goal
@@ -20,7 +22,7 @@ unfolding plain_entry
 returns c p l faces =
     let s = c.args in
     let e = plain_entry s.e.now in
-    c.unless-2.ensures
+    c.unless-2.ensures ∙ ap (unless Falls) c.is_before.ensures
     ∙ elim c.else-ne.branch [
       | else-ne-via-then-ne+else-reaches_beyond w ↦ by_no_remote p s.time.0 e s.local.0 faces.local s.validity faces.validity (sym w.reaches_beyond.ensures ∙ w.if-reaches_beyond.false)
       | else-ne-via-else-ne w ↦

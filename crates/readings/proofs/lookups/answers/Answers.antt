@@ -1,20 +1,11 @@
 -- What the table gives is said; where it gives none, the four tests in their turn.
-use Rattle.std.proofs.Common.{true, false, ◌^◌, ◌∙◌, sym, refl, leb, arith, le-ltb, lt-ltb, leb-true, []}
-use Rattle.lists.proofs.Tests.{and_right}
-use Rattle.rules.specs.Readings.{question}
+use Rattle.std.proofs.Common.{true, false, ◌∙◌, sym, refl, le-ltb, lt-ltb, []}
 use Rattle.types.specs.declared.refusal.Refusal.TheVariants.{Malformed}
 use Rattle.types.specs.Transactions.{number_of}
 use Rattle.ledger.specs.Contents.{contents}
 use Rattle.ledger.proofs.Places.{found_at, not_found}
-use Rattle.readings.proofs.Looked.{refuses, passes, says, stops, goes_on, fails, follows, timely}
+use Rattle.readings.proofs.Looked.{refuses, passes, says, stops, goes_on, fails, follows}
 use Rattle.readings.proofs.lookups.answers.Goals as goal
-
-pub is_absent-requires : goal.is_absent-requires
-unfolding contents
-is_absent-requires c =
-    let q = c.args.q in
-    let v = c.args.ledger.core_span in
-    (timely (question 0 q.shard.0 0 q.at.0 q.end.0) c.args.read_at.0 (sym c.in_ok-check.ensures), omega (arith, leb-true v (2 ^ 40) (and_right (leb 1 v) (leb v (2 ^ 40)) c.requires.good.frame.core_span)))
 
 pub returns-then-inclusion-gt1 : goal.returns-then-inclusion-gt1
 returns-then-inclusion-gt1 c = refuses Malformed _ _ _ [] (stops _ _ _ (lt-ltb _ _ c.if-inclusion-gt1.true))
