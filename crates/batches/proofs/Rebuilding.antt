@@ -14,7 +14,6 @@ use borrow.Author.Tests.{ltb-false}
 use Rattle.lists.specs.Lists.{Every, total, at, has, include, change, self, set_of}
 use Rattle.lists.specs.Arrays.{place, rank}
 use Rattle.lists.proofs.Items.{counted-few}
-use Rattle.lists.proofs.Distinct.{every_at}
 use Rattle.lists.proofs.Loops.{rank_le}
 use Rattle.lists.proofs.Keep.{any-map, keep_same}
 use Rattle.lists.proofs.Order.{length-include}
@@ -102,9 +101,6 @@ including_good p e h room g =
     })
 
 -- The roster's free slot, and where a transaction ranks.
-
-pub free_slot_lem : (l : Ledger) → l.roster.len < 48 → free_slot l.roster < 48
-free_slot_lem l room = every_at (λ n. n < 48) 0 l.roster.len l.roster.slots (omega (arith, l.roster.lengths.1, room)) l.roster.within
 
 pub ranks_within : (l : Ledger) → (t : ℕ) → rank (below t) (keys_of l.roster) ≤ l.roster.len
 ranks_within l t = omega (arith, rank_le (below t) (keys_of l.roster), length-take-le l.roster.len l.roster.keys (omega (arith, l.roster.room, l.roster.lengths.0)))

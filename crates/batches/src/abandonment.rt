@@ -24,7 +24,8 @@ fn is_among(groups: Record<'_>, n: usize, tx: Transaction) -> bool
     (0..n).any(|i| groups.transaction(i) == tx)
 }
 
-// How many distinct transactions are not yet owed: a group counts if no earlier one is of its transaction.
+// How many distinct transactions are not yet owed: a group counts if no earlier one is of its transaction. A filter would be no plainer,
+// since two tests pass a group by, each for its own reason.
 fn count_new(roster: Roster, groups: Record<'_>) -> usize
     ensures { result ≡ length (new_to (keys_of roster) (transactions groups.entry.words.now)) }
 {

@@ -15,7 +15,7 @@ use types::refusal::Refusal;
 use types::{Shard, record_key};
 use words::admission::Admission;
 
-// The entry named under each record that it issued, from its last edge to its first.
+// The entry named under each record that it issued, from its last edge to its first; by place, since two arrays are gone through backwards.
 fn name_issued(mut issuers: Issuers, e: Entry, local: Shard) -> Issuers
     requires { Nameable issuers e local.0 }
     ensures { Holds (with_pairs local.0 e issuers) result }

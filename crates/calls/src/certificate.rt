@@ -11,7 +11,8 @@ use ledger::{Done, Ledger};
 use types::refusal::Refusal;
 use types::{Shard, Transaction, is_shard};
 
-// How far this shard has spoken for a transaction: the greater code is kept.
+// How far this shard has spoken for a transaction: the greater code is kept. The code is the word as it comes in; here it becomes a
+// certificate.
 pub fn certify(mut ledger: Ledger, tx: Transaction, code: u64) -> Done
     requires { Held ledger }
     ensures { Meets (after_certify (number_of tx) code (contents ledger)) [] [] result }

@@ -38,7 +38,7 @@ fn are_spans(validity: u64, core_span: u64, leg_span: u64) -> bool
     is_span(validity) && is_span(core_span) && is_span(leg_span)
 }
 
-// A ledger for a shard, with its three spans. A refused making hands back the empty ledger of shard 1 with spans of 1.
+// A ledger for a shard, with its three spans, which come as words and stay the paper's three fields. A refused making hands back the empty ledger of shard 1 with spans of 1.
 pub fn new(local: Shard, validity: u64, core_span: u64, leg_span: u64) -> Done
     ensures { Meets (making local.0 validity core_span leg_span) [] [] result }
 {

@@ -48,7 +48,7 @@ pub fn forget(ledger: Ledger, tx: Transaction) -> Done
     let_go(ledger, tx, |_| true, 1)
 }
 
-// A leg whose row a fate ends is let go as aborted, 2; all else stays, 0.
+// A leg whose row a fate ends is let go as aborted, 2 in the answer's word; all else stays, 0.
 pub fn fated(ledger: Ledger, tx: Transaction) -> Done
     requires { Held ledger }
     ensures { Meets (after_fated (number_of tx) (contents ledger)) [] [] result }

@@ -14,7 +14,7 @@ use store::departures::Departures;
 use types::refusal::Refusal;
 use types::{Shard, Time, is_shard, is_time};
 
-// Whether until is a time, where it is read at all.
+// Whether until is a time, where it is read at all. The pair is as it comes in words, and an option from `stamp_in` on.
 fn is_until(stamped: u64, until: Time) -> bool
     ensures { result ≡ is_until stamped until.0 }
 {

@@ -37,7 +37,7 @@ pub struct Absence {
     pub key: u64,
 }
 
-// departed_by is shard 0 while no record names the entry, as in the plain ledger. An edge's id, from-shard, kind (1 owed) and number of
+// departed_by is shard 0 while no record names the entry, as in the plain ledger; returned is a plain fact with no value beside it. An edge's id, from-shard, kind (1 owed) and number of
 // destinations stand at its place in four arrays; the destinations lie joined in a fifth. Absences rise by shard and then key, marks rise.
 // There is no heap: each list stands in an array of fixed size with its length beside it, as the plain ledger's words lie.
 #[derive(Clone, Copy)]
@@ -71,7 +71,8 @@ pub struct Entry {
     pub ghost others: { (length kinds ≡ 8) × (length sizes ≡ 8) × (length absences ≡ 8) },
 }
 
-// Whether an edge from this shard has this id's record key.
+// Whether an edge from this shard has this id's record key. This and the like below are a line each over a derived operator or a cast, whose
+// contract says the rule by its name.
 pub fn is_issue(from: Shard, id: u64, local: Shard, r: RecordKey) -> bool
     ensures { result ≡ eqb from.0 local.0 && eqb (record_key id) r.0 }
 {
@@ -151,7 +152,7 @@ impl Entry {
     ghost use Rattle.rules.specs.Good.{GoodEntry};
     ghost use Rattle.entry.specs.Entry.{plain_entry, plain_absence, certificate_number, absence, is_marked, FindsEdge, Blank, Means, RoomForAbsence, RoomForMark};
 
-    // What a place of the arena holds before an entry is put there.
+    // What a place of the arena holds before an entry is put there; a derived Default would not say what it is.
     pub fn blank() -> Entry
         ensures { Blank result }
     {

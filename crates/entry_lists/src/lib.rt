@@ -4,11 +4,8 @@
 // are lent the ledger, so that none copies it.
 #![tactic(auto)]
 
-ghost use Rattle.std.specs.Prelude.{◌≡◌, ◌&&◌, ◌+◌, ◌*◌, ◌≤◌, ◌<◌, ◌^◌, ◌++◌, eqb, length, List, Option, Some};
-ghost use Rattle.std.proofs.lemmas.List.Edits.{sets};
-ghost use Rattle.rules.specs.Words.{transaction_size, transaction_words};
-ghost use Rattle.types.specs.Transactions.{number_of};
-ghost use Rattle.rules.specs.Readings.{read, ask_questions, list_past_deadline, list_issuers, questions, questions_of, question_words, past_deadline, issuers_of};
+ghost use Rattle.std.specs.Prelude.{◌≡◌, ◌+◌, ◌*◌, ◌≤◌, length, Some};
+ghost use Rattle.rules.specs.Readings.{read, ask_questions, list_past_deadline, list_issuers, questions, questions_of, question_words};
 ghost use Rattle.rules.specs.Good.{GoodEntry};
 ghost use Rattle.rules.specs.Numbers.{max_entries};
 ghost use Rattle.rules.specs.Widths.{question_size};
@@ -25,7 +22,7 @@ use readings::reply::list;
 use std::convert::AsSlice;
 use types::refusal::Refusal;
 use types::widths::{ISSUER_WORDS, ISSUERS_ROOM, QUESTION_WORDS, TERM_WORDS, TERMS_ROOM};
-use types::{Shard, Time, Transaction};
+use types::{Shard, Time};
 
 // Whether the entry asks: an uncovered core.
 #[tactic(auto, unfolding(entry::specs::Entry::plain_entry))]
@@ -53,7 +50,8 @@ fn put_questions(e: &Entry, local: Shard, from: usize, words: &mut [u64]) -> usi
     count
 }
 
-// How many questions the entry asks. A core has local in it, of which nothing is asked.
+// How many questions the entry asks. A core has local in it, of which nothing is asked: what makes an entry good
+// depends on the ledger's local, and is no fact of the entry alone.
 #[tactic(auto, using(crate::proofs::ByEntry::asks_some, crate::proofs::ByEntry::asks_all, crate::proofs::ByEntry::asks_none))]
 fn asks(e: &Entry, local: Shard) -> usize
     requires { GoodEntry local.0 (plain_entry e.now) }
@@ -66,7 +64,7 @@ fn asks(e: &Entry, local: Shard) -> usize
     }
 }
 
-// How many questions there are.
+// How many questions there are. An iterator's sum is no plainer: its bound would be proved beside it.
 fn count_questions(ledger: &Ledger) -> usize
     requires { Held ledger.now }
     ensures { (result ≡ length (questions (contents ledger.now))) × (result ≤ 8 * max_entries) }

@@ -11,10 +11,11 @@ use crate::views::{Seen, View};
 use entry::Entry;
 use types::{Shard, Time, led};
 
-// More than any cut and any shard.
+// More than any cut and any shard: from them on the paper's loop keeps the best so far.
 const TOP: u64 = 0xFFFF_FFFF_FFFF_FFFF;
 
-// Whether a departure is over a route that is led by a one bit: its shard owns it, and its cut is after the anchor.
+// Whether a departure is over a route that is led by a one bit: its shard owns it, and its cut is after the anchor. `Shard::owns` would count
+// the shard's zeros anew for each route.
 fn is_over(led: u64, d: Seen, anchor: Time) -> bool
     ensures { result ≡ (eqb (led / 2 ^ d.zeros) d.shard.0 && ltb anchor.0 d.cut.0) }
 {
@@ -36,7 +37,7 @@ fn counts_over(led: u64, d: Seen, anchor: Time, best: Time, lowest: Shard) -> bo
 }
 
 // Rule 4's question: over some remote route there is no departure, or the one that counts is readable. The departures are gone
-// through downwards, with the best so far beside; the loops left by their label are a form that is kept.
+// through downwards by their places, with the best so far beside; loops left by their label are a form that the paper names.
 pub fn is_answerable(e: &Entry, local: Shard, view: &View) -> bool
     ensures { SaysAnswerable view.now (take e.now.routes_len e.now.routes) e.now.anchor.0 local.0 result }
 {

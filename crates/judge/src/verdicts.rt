@@ -1,7 +1,7 @@
 // The five rules.
-ghost use Rattle.std.specs.Prelude.{◌≡◌, ◌&&◌, ◌||◌, true, ltb};
+ghost use Rattle.std.specs.Prelude.{◌≡◌, ◌||◌};
 ghost use Rattle.lists.specs.Lists.{filled};
-ghost use Rattle.rules.specs.Plain.{is_core, is_settling};
+ghost use Rattle.rules.specs.Plain.{is_settling};
 ghost use Rattle.entry.specs.Entry.{plain_entry};
 ghost use Rattle.judge.specs.Verdict.{unless, RuledByRoutes, Judged};
 

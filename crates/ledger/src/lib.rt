@@ -11,6 +11,7 @@ use store::roster::Roster;
 use types::Shard;
 use types::refusal::Refusal;
 
+// Who takes an entry in or lets one go writes the roster, the index and the slot in place: a method would say as much as these lines do.
 #[derive(Clone, Copy)]
 pub struct Ledger {
     pub local: Shard,
@@ -25,7 +26,8 @@ pub struct Ledger {
     pub ghost slots: { length entries ≡ 48 },
 }
 
-// What a changing call says, three answers (0 where it has fewer) or why it is turned away, and the ledger after it.
+// What a changing call says, three answers (0 where it has fewer) or why it is turned away, and the ledger after it. A ledger is handed in and
+// back by value, as the claim's chain of ledgers is: what `Meets` says of a call it says of two ledgers, and `?` could not hand one back.
 #[derive(Clone, Copy)]
 pub struct Done {
     pub said: Result<[u64; 3], Refusal>,

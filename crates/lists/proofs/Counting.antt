@@ -5,8 +5,8 @@ use mathlib.Core.Path.{◌≡◌, sym, ap, ◌∙◌}
 use mathlib.Core.List.{List, [], ◌∷◌, map, map-append}
 use native.Mathlib.Numerals.{add-one}
 use native.Mathlib.Omega.{arith}
-use lib.ListN.{length, take, drop, get_or, set, replicate, length-map}
-use lib.Seq.{drop-cons, take-suc, take-suc-set, length-take-le}
+use lib.ListN.{length, take, drop, get_or, set, replicate}
+use lib.Seq.{drop-cons, take-suc, take-suc-set}
 use Rattle.lists.specs.Lists.{Every}
 
 -- one more is read off into the front

@@ -13,7 +13,7 @@ use lib.Dec.{ltb, leb}
 use lib.ListN.{length, take, drop, get_or, length-take, length-drop, drop_of_length-le}
 use lib.Seq.{drop-cons, take-take, drop-drop, get_or-drop, get_or-take, take-nil}
 use Rattle.std.specs.List.{AllAdjacentBelow, IsAllAdjacentAnswer}
-use Rattle.lists.specs.Lists.{any, all, Every, all_of, total, zip_by, self, part, cut, above_all, ascending}
+use Rattle.lists.specs.Lists.{all, Every, all_of, total, zip_by, self, part, cut, above_all, ascending}
 use Rattle.lists.proofs.Tests.{and_left, and_right, and_both, and_false}
 
 -- what is still to come: one more, or none

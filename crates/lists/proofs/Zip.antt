@@ -8,7 +8,7 @@ use mathlib.Core.Bool.{Bool, true, false}
 use native.Mathlib.Omega.{arith}
 use lib.ListN.{length, take, drop, get_or}
 use lib.Seq.{drop-drop, get_or-take, length-take-le}
-use Rattle.lists.specs.Lists.{any, keep_by, zip_by, cut, total, self}
+use Rattle.lists.specs.Lists.{keep_by, zip_by, cut, total, self}
 use Rattle.lists.specs.Arrays.{insert_at}
 
 module _ {A B C : Type 0} (f : A → B → C) where

@@ -1,4 +1,5 @@
-// Slices of words: a word, a part, tests of each number, sums and copies.
+// Slices of words: a word, a part, tests of each number, sums and copies. Most are one call of the library's, with the rules' own word for it
+// in the contract.
 ghost use Rattle.std.specs.Prelude.{◌≡◌, true, ◌+◌, ◌≤◌, leb, length, take, get_or};
 ghost use Rattle.lists.specs.Lists.{all, has, ascending, total, self, part, cut};
 

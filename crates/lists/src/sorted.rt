@@ -1,5 +1,5 @@
 // Items that rise in the front of a slice: where one ranks, and putting a number in. The slice is lent, so that nothing of it is copied.
-ghost use Rattle.std.specs.Prelude.{◌≤◌, ◌<◌, length, take};
+ghost use Rattle.std.specs.Prelude.{◌≤◌, length, take};
 ghost use Rattle.std.specs.Fn.{FnReturnsAt};
 ghost use Rattle.lists.specs.Lists.{include, Ascending, self};
 ghost use Rattle.lists.specs.Arrays.{Ranks, Included};

@@ -9,7 +9,7 @@ use borrow.Author.Tests.{ltb-true}
 use lib.ListN.{get_or}
 use Rattle.lists.specs.Arrays.{place}
 use Rattle.rules.specs.Plain as plain
-use Rattle.rules.specs.Plain.{Plain, transaction_of}
+use Rattle.rules.specs.Plain.{Plain}
 use Rattle.rules.specs.Numbers.{is_time}
 use Rattle.rules.specs.Outcome.{Outcome, done, unless, ◌gives◌then◌, yes_no}
 use Rattle.rules.specs.Readings.{Question, question_refusal, lookup, of_entry}

@@ -1,5 +1,5 @@
 // Lookups: each answers a number, or yes and no, and no for a transaction that is not owed.
-ghost use Rattle.std.specs.Prelude.{◌≡◌, ◌&&◌, [], eqb, ltb, leb, ◌+◌, ◌<◌, ◌^◌};
+ghost use Rattle.std.specs.Prelude.{◌≡◌, ◌&&◌, [], eqb, ltb, leb, ◌+◌};
 ghost use Rattle.std.specs.Fn.{FnReturnsAt};
 ghost use Rattle.rules.specs.Numbers.{is_time};
 ghost use Rattle.rules.specs.Readings.{read, open_at, answers, abandonment_answers, abandonment, covered, departed, executed, reaches_beyond, issued_by, local, rebuilt, question, question_refusal};

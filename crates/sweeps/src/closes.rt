@@ -36,6 +36,7 @@ impl Closing {
             stay: [false; 48],
             count: 0,
         };
+        // By place: an entry's flag stands at its place in the roster.
         for i in 0..ledger.roster.len {
             let slot = ledger.roster.slots[i];
             let closed = ledger.entries[slot].is_closed(ledger.local);

@@ -1,12 +1,8 @@
 // Prune: the entries that no longer stand fall, some with a report, and the departures that no entry needs any more go with them.
-ghost use Rattle.std.specs.Prelude.{◌+◌, ◌≤◌, ◌≡◌, true, not, [], ◌∷◌, ◌++◌, length, take};
-ghost use Rattle.std.proofs.lemmas.List.Edits.{sets};
+ghost use Rattle.std.specs.Prelude.{◌≤◌, ◌≡◌, not, length};
 ghost use Rattle.lists.specs.Lists.{any};
 ghost use Rattle.rules.specs.Calls.{after_prune};
-ghost use Rattle.rules.specs.Words.{transaction_words};
-ghost use Rattle.rules.specs.Widths.{report_size};
 ghost use Rattle.types.specs.Refusals.{refused_in};
-ghost use Rattle.types.specs.Transactions.{number_of};
 ghost use Rattle.entry.specs.Entry.{plain_entry};
 ghost use Rattle.ledger.specs.Contents.{Held, contents};
 ghost use Rattle.ledger.specs.Meets.{Meets};
@@ -21,7 +17,7 @@ use lists::slices::part;
 use store::leaving::without_dropped;
 use types::refusal::Refusal;
 use types::widths::{REPORT_WORDS, REPORTS_ROOM};
-use types::{Shard, Time, Transaction, is_time};
+use types::{Shard, Time, is_time};
 
 // By place in the roster who stays, by place on file which departures those who stay need (flags in fixed memory, since there is no heap),
 // whether some departure may still be unneeded, the words of the reports, and how many reports and how many fell.
@@ -39,6 +35,7 @@ pub struct Pruning {
 fn with_needs(mut flags: [bool; 32], e: &Entry, local: Shard, view: &View) -> [bool; 32]
     ensures { Needed local.0 (plain_entry e.now) view.now flags result }
 {
+    // By place: the flags go beside the view's items.
     for j in 0..view.len {
         flags[j] = flags[j] || needs(e, local, view.items[j]);
     }
@@ -66,7 +63,7 @@ impl Pruning {
         }
     }
 
-    // One pass over the roster judges each entry, and puts what it needs or reports beside; once every departure is needed, no more is
+    // One pass over the roster, by place since flags stand by place, judges each entry, and puts what it needs or reports beside; once every departure is needed, no more is
     // asked.
     fn of(ledger: &Ledger, time: Time) -> Pruning
         requires { Held ledger.now }

@@ -20,6 +20,7 @@ pub enum Refusal {
 }
 
 impl Refusal {
+    // The word that an answer has.
     pub fn number(self) -> u64
         ensures { result ≡ refusal_number self }
     {

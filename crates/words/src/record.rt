@@ -74,7 +74,7 @@ impl<'a> Record<'a> {
         (0..n).all(|i| group_timed(self.words, 2 + n + 5 * i))
     }
 
-    // The transaction of the i-th group.
+    // The transaction of the i-th group. Who asks for a group hands in its place, as for an item of a slice.
     pub fn transaction(self, i: usize) -> Transaction
         requires { i < group_count self.words.now }
         ensures { number_of result ≡ transaction_at (groups_at self.entry.words.now + group_size self.entry.words.now * i) self.entry.words.now }
