@@ -1,6 +1,5 @@
 // The lines that are written: the answer to a call, and the one that stops a script.
 ghost use Rattle.std.specs.Prelude.{◌≤◌};
-ghost use Rattle.ledger.specs.Contents.{Held};
 
 use crate::dump;
 use ledger::Ledger;
@@ -30,9 +29,7 @@ pub fn put_reply<W: Write>(
     reply: Reply,
     ledger: &Ledger,
     list: &[u64],
-)
-    requires { Held ledger.now }
-{
+) {
     let code = call.code.place;
     put_answers(writer, code, reply);
     if code == codes::DUMP {
