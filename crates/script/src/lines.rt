@@ -7,7 +7,7 @@
 ghost use Rattle.std.specs.Prelude.{◌+◌, ◌≤◌, ◌<◌, ◌≡◌, length, IfSome, IfOk};
 
 use crate::numbers::is_digit;
-use crate::tokens::first_of;
+use crate::tokens::before;
 use std::io::Read;
 
 // A line that does not fit.
@@ -64,7 +64,7 @@ impl<R: Read> Reader<R> {
         // Every loop must end; a remark may go on as long as the input does, which is not read 2^64 times.
         for _ in 0..u64::MAX {
             let start = self.next;
-            let end = first_of(b'\n', &self.buf[..self.filled], start);
+            let end = start + before(b'\n', &self.buf[start..self.filled]);
             if end < self.filled {
                 self.next = end + 1;
                 return Some(Ok((start, end)));

@@ -56,9 +56,9 @@ fn call_in(line: &[u8], numbers: &mut [u64; 2048]) -> Option<Line>
     requires { is_remark line.now ≡ false }
     ensures { IfSome result (Says line.now numbers.new) }
 {
-    let end = tokens::token_end(line, 0);
-    let code = calls::code_of(&line[..end])?;
-    let tail = tail_of(line, end, numbers)?;
+    let (name, rest) = tokens::cut(line);
+    let code = calls::code_of(name)?;
+    let tail = tail_of(rest, numbers)?;
     checked(code, tail, numbers[0])
 }
 
@@ -106,23 +106,19 @@ fn call(code: Code, count: usize, lent: usize) -> Call
     }
 }
 
-// What stands from `from` on, where the line ends or a space stands: numbers, and the lent count. The place goes on by tokens and not by
-// bytes; `split` gives the tokens, but its iterator, handed on for the lent count, asks for longer clauses than a place does.
-fn tail_of(line: &[u8], from: usize, numbers: &mut [u64]) -> Option<Tail>
-    requires { (from ≤ length line.now) × (2048 ≡ length numbers.old) }
+// What stands behind a name, from its end on: numbers, and the lent count.
+fn tail_of(text: &[u8], numbers: &mut [u64]) -> Option<Tail>
+    requires { 2048 ≡ length numbers.old }
     ensures count_bound { IfSome result Small }
-    ensures value { result ≡ tail_of 0 (behind (drop from line.now)) }
-    ensures numbers_after { IfSome result (λ t. take t.count numbers.new ≡ numbers_of (behind (drop from line.now))) }
+    ensures value { result ≡ tail_of 0 (behind text.now) }
+    ensures numbers_after { IfSome result (λ t. take t.count numbers.new ≡ numbers_of (behind text.now)) }
 {
-    let mut at = from;
+    let mut rest = text;
     let mut count = 0;
-    while at < line.len() {
-        let begin = at + 1;
-        let end = tokens::token_end(line, begin);
-        let token = &line[begin..end];
+    while let Some((token, next)) = tokens::next(rest) {
         let is_lent = token == b"lent".as_slice();
         if is_lent {
-            return with_lent(line, end, count);
+            return with_lent(next, count);
         }
         let n = numbers::value_of(token)?;
         if count >= 2048 {
@@ -130,25 +126,21 @@ fn tail_of(line: &[u8], from: usize, numbers: &mut [u64]) -> Option<Tail>
         }
         numbers[count] = n;
         count += 1;
-        at = end;
+        rest = next;
     }
     Some(Tail { count, lent: None })
 }
 
-// The lent count, which begins behind the space at `at` and ends the line.
-fn with_lent(line: &[u8], at: usize, count: usize) -> Option<Tail>
-    requires { (at ≤ length line.now) × (count ≤ 2048) }
-    ensures { result ≡ lent_of count (behind (drop at line.now)) }
+// The lent count, which begins behind a space and ends the text.
+#[tactic(auto, using(crate::proofs::Grammar::lent_none, crate::proofs::Grammar::lent_several))]
+fn with_lent(text: &[u8], count: usize) -> Option<Tail>
+    ensures { result ≡ lent_of count (behind text.now) }
 {
-    if at == line.len() {
+    let (token, rest) = tokens::next(text)?;
+    if !rest.is_empty() {
         return None;
     }
-    let begin = at + 1;
-    let end = tokens::token_end(line, begin);
-    if end < line.len() {
-        return None;
-    }
-    lent_number(numbers::value_of(&line[begin..end])?, count)
+    lent_number(numbers::value_of(token)?, count)
 }
 
 fn lent_number(lent: u64, count: usize) -> Option<Tail>
