@@ -1,6 +1,6 @@
 -- Laws of tokens: the first token of a text and what stands behind it, one number more, and the lent count.
 -- Assumes nothing.
-use Prim.Native.Nat.{ℕ, zero, suc, ◌+◌, ◌-◌, ◌≤◌, ◌<◌}
+use Prim.Native.Nat.{ℕ, zero, suc, ◌+◌, ◌≤◌, ◌<◌}
 use mathlib.Core.Path.{◌≡◌, refl, sym, ap, ◌∙◌}
 use mathlib.Core.Bool.{Bool, true, false, cond}
 use mathlib.Core.List.{List, [], ◌∷◌, ◌++◌, append_assoc, append-nil}
@@ -94,12 +94,15 @@ cond_small : (t : Bool) (a b : Option Tail) → IfSome a Small → IfSome b Smal
 cond_small true a b x y = x
 cond_small false a b x y = y
 
-pub tail_small : (k : ℕ) (ts : List (List ℕ)) → k ≤ 2048 → IfSome (tail_of k ts) Small
+tail_small : (k : ℕ) (ts : List (List ℕ)) → k ≤ 2048 → IfSome (tail_of k ts) Small
 unfolding tail_of
 tail_small k [] h = (h, tt)
 tail_small k (t ∷ ts) h =
     cond_small (same_text t lent_text) _ _ (lent-small k ts h)
     (on_small (number_of t) (ltb k 2048) (tail_of (k + 1) ts) (λ e. tail_small (k + 1) ts (omega (arith, ltb-true k 2048 e))))
+
+pub small : (t : Tail) (ts : List (List ℕ)) → Some t ≡ tail_of 0 ts → Small t
+small t ts e = let h = tail_small 0 ts (omega arith) in rw (← e) at h
 
 -- one token more
 module _ (ts us : List (List ℕ)) (t : List ℕ) (e : ts ≡ t ∷ us) where
@@ -150,10 +153,6 @@ lent-count k (t ∷ []) = one (number_of t)
     one (Some n) = pick n (leb n 4096)
     one None = tt
 lent-count k (t ∷ u ∷ ts) = tt
-
--- what a result that equals a tail has
-pub small_of : (r t : Option Tail) → r ≡ t → IfSome t Small → IfSome r Small
-small_of r t e h = rw e h
 
 -- one number stored, and none left
 pub stored_number : (numbers : List ℕ) (k n : ℕ) (rest rest' all : List ℕ) → k < length numbers → rest ≡ n ∷ rest' → take k numbers ++ rest ≡ all →

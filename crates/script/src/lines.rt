@@ -124,7 +124,8 @@ fn room(buf: &mut [u8], from: usize, to: usize) -> usize
     squeeze(buf)
 }
 
-// Makes the unfinished line that fills buf shorter, with the same meaning.
+// Makes the unfinished line that fills buf shorter, with the same meaning. By place, since the byte after is looked at while those before
+// are written.
 fn squeeze(buf: &mut [u8]) -> usize
     requires { 0 < length buf.old }
     ensures { (0 < result) × (result ≤ length buf.old) × (length buf.new ≡ length buf.old) }
@@ -147,7 +148,8 @@ fn squeeze(buf: &mut [u8]) -> usize
     kept + 1
 }
 
-// Whether a byte is a zero that leads a number: it follows a space, and a digit follows it.
+// Whether a byte is a zero that leads a number: it follows a space, and a digit follows it. Three bytes compared in one line, which the
+// name says.
 fn leads(before: u8, byte: u8, after: u8) -> bool {
     before == b' ' && byte == b'0' && is_digit(after)
 }

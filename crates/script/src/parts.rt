@@ -62,7 +62,7 @@ fn call_in(line: &[u8], numbers: &mut [u64; 2048]) -> Option<Line>
     checked(code, tail, numbers[0])
 }
 
-// A call with what stands behind its name, where the two fit.
+// A call with what stands behind its name, where the two fit; it is lent nothing where it takes no list.
 fn checked(code: Code, tail: Tail, first: u64) -> Option<Line>
     requires { Small tail }
     ensures { IfSome result (Fits code.place tail first) }
@@ -73,7 +73,16 @@ fn checked(code: Code, tail: Tail, first: u64) -> Option<Line>
     if code.place == REPEAT {
         return repeat(tail, first);
     }
-    Some(Line::Call(call(code, tail.count, tail.lent.unwrap_or(0))))
+    let lent = if calls::takes_list(code) {
+        tail.lent.unwrap_or(0)
+    } else {
+        0
+    };
+    Some(Line::Call(Call {
+        code,
+        count: tail.count,
+        lent,
+    }))
 }
 
 // A line that has the next call made so often; it lends nothing.
@@ -93,28 +102,14 @@ fn takes(code: Code, count: usize) -> bool
     calls::count_of(code).is_none_or(|own| own == count)
 }
 
-// A call, lent nothing where it takes no list.
-fn call(code: Code, count: usize, lent: usize) -> Call
-    requires { (0 < code.place) × (count ≤ 2048) × (lent ≤ 4096) × Takes code.place count }
-    ensures { (result.code ≡ code) × (result.count ≡ count) × (result.lent ≡ cond (takes_list code.place) lent 0) }
-{
-    let words = if calls::takes_list(code) { lent } else { 0 };
-    Call {
-        code,
-        count,
-        lent: words,
-    }
-}
-
 // What stands behind a name, from its end on: numbers, and the lent count.
-fn tail_of(text: &[u8], numbers: &mut [u64]) -> Option<Tail>
-    requires { 2048 ≡ length numbers.old }
-    ensures count_bound { IfSome result Small }
+fn tail_of(text: &[u8], numbers: &mut [u64; 2048]) -> Option<Tail>
     ensures value { result ≡ tail_of 0 (behind text.now) }
     ensures numbers_after { IfSome result (λ t. take t.count numbers.new ≡ numbers_of (behind text.now)) }
 {
     let mut rest = text;
     let mut count = 0;
+    // A `while`, since the rest goes on by tokens, and what stands behind `lent` is handed on.
     while let Some((token, next)) = tokens::next(rest) {
         let is_lent = token == b"lent".as_slice();
         if is_lent {

@@ -2,7 +2,7 @@
 -- Assumes nothing.
 use Rattle.std.proofs.Common.{arith, ◌∙◌, ap, sym}
 use Rattle.script.specs.Texts.{same_text}
-use Rattle.script.proofs.Grammar.{tail_small, tail_lent, numbers-lent, tail_number, numbers_number, tail_not, tail_many, tail_end, numbers-end, small_of, stored_number, all_stored, lent_stored}
+use Rattle.script.proofs.Grammar.{tail_lent, numbers-lent, tail_number, numbers_number, tail_not, tail_many, tail_end, numbers-end, stored_number, all_stored, lent_stored}
 use Rattle.script.proofs.parts.tail_of.Goals as goal
 
 pub returns-then-is_lent : goal.returns-then-is_lent
@@ -10,7 +10,6 @@ returns-then-is_lent c =
     let s = sym c.if-is_lent.true ∙ c.eq-is_lent.ensures ∙ ap (same_text _) c.as_slice.ensures in
     let q = c.with_lent.ensures ∙ sym (tail_lent _ _ _ c.in-Some.ensures.token _ s) ∙ c.loop-token.invariant.tail in
     record {
-      count_bound = small_of _ _ q (tail_small 0 _ (omega arith));
       value = q;
       numbers_after = lent_stored _ _ _ _ _ _ c.with_lent.ensures (numbers-lent _ _ _ c.in-Some.ensures.token s) c.loop-token.invariant.numbers;
     }
@@ -29,7 +28,6 @@ pub loop-token-preserved : goal.loop-token-preserved
 loop-token-preserved c =
     let s = sym c.if-is_lent.false ∙ c.eq-is_lent.ensures ∙ ap (same_text _) c.as_slice.ensures in
     record {
-      few = omega arith;
       tail = sym (tail_number _ _ _ c.in-Some.ensures.token _ _ s c.in_ok-n.ensures c.if-count-ge2048.false) ∙ c.loop-token.invariant.tail;
       numbers = stored_number c.loop-token.numbers c.loop-token.count _ _ _ _ (omega arith) (numbers_number _ _ _ c.in-Some.ensures.token _ s c.in_ok-n.ensures) c.loop-token.invariant.numbers;
     }
