@@ -4,7 +4,7 @@
 // does not fit is made shorter where that does not change its meaning: a comment is cut to its first
 // byte, and a zero that leads a number is dropped. So a line that still does not fit is malformed: 2,048
 // numbers of 20 digits, a name and a lent count take fewer than 43,100 bytes.
-ghost use Rattle.std.specs.Prelude.{◌+◌, ◌≤◌, ◌<◌, ◌≡◌, length, IfSome, IfOk};
+ghost use Rattle.std.specs.Prelude.{◌≤◌, ◌<◌, ◌≡◌, length, IfSome, IfOk};
 
 use crate::numbers::is_digit;
 use crate::tokens::before;

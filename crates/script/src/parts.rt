@@ -3,8 +3,8 @@
 // line = name { " " number } [ " lent " number ]. Zeros may lead a number. A lent count is 0 to 4,096, comes last
 // and is not among the 2,048 numbers. `repeat` has one number from 1 and no lent. To a call that
 // takes no list nothing is lent.
-ghost use Rattle.std.specs.Prelude.{◌≡◌, ◌≤◌, ◌<◌, IsTrue, IfSome, MatchResult, cond, false, length, take, drop};
-ghost use Rattle.script.specs.Calls.{takes_list, Takes};
+ghost use Rattle.std.specs.Prelude.{◌≡◌, IsTrue, IfSome, MatchResult, false, take};
+ghost use Rattle.script.specs.Calls.{Takes};
 ghost use Rattle.script.specs.Grammar.{behind, tail_of, numbers_of, lent_of, lent_number, is_remark, Small};
 ghost use Rattle.script.specs.Parse.{Says, Fits};
 ghost use Rattle.script.specs.declared.line.Line.{Line};
