@@ -22,7 +22,7 @@ pub struct RunAndPruned {
     pub pruned: Option<PrunedAll>,
 }
 
-// The claim from any ledger that a call handed back.
+// The claim from any ledger that a call handed back. Clocks, k and the lists stay apart, since the claim names each.
 pub fn run_and_prune_from(
     start: Ledger,
     calls: &[u64],

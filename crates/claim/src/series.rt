@@ -19,6 +19,7 @@ fn is_nondecreasing(clocks: &[u64]) -> bool
     clocks.is_sorted() && are_times(clocks)
 }
 
+// The library's `all`, with the rule's own words in the contract.
 fn are_times(clocks: &[u64]) -> bool
     ensures { result ≡ all is_time clocks.now }
 {
@@ -48,8 +49,8 @@ pub struct PrunedAll {
     pub after: Ledger,
 }
 
-// A prune at each clock in turn, the reports one prune's after the other's, and the numbers of each prune. The ledger after the first k is
-// kept beside.
+// A prune at each clock in turn, the reports one prune's after the other's, and the numbers of each prune: two words for each clock, as the
+// claim says them. The ledger after the first k is kept beside.
 pub fn prune_all(
     start: Ledger,
     clocks: &[u64],
@@ -64,6 +65,7 @@ pub fn prune_all(
     let mut between = start;
     let mut fallen = 0;
     let mut written = 0;
+    // By place, since the clocks, the counts, and k go on together.
     for i in 0..clocks.len() {
         let clock = Time(clocks[i]);
         let at = REPORT_WORDS * written;

@@ -1,6 +1,6 @@
 -- What a line's call left, from what `dispatch` says of the call that was made on the list filled anew.
 -- Assumes nothing.
-use Prim.Native.Nat.{ℕ, zero, suc, max}
+use Prim.Native.Nat.{ℕ, zero, suc, ◌-◌, max}
 use mathlib.Core.Path.{◌≡◌, refl, ap, ◌∙◌}
 use mathlib.Core.List.{List}
 use native.Mathlib.Omega.{arith}
@@ -14,7 +14,8 @@ use Rattle.ledger.specs.declared.Done.{Done}
 use Rattle.ledger.specs.Contents.{contents, Held}
 use Rattle.readings.specs.Reads.{Reads}
 use Rattle.dispatch.specs.Changing.{Turned}
-use Rattle.replay.specs.Lines.{turns_of, fill_word, filled, Reply, call_in, reading_in, Changed, Asked}
+use Rattle.dispatch.specs.Reading.{reading_of}
+use Rattle.replay.specs.Lines.{turns_of, fill_word, filled, Reply, call_in, Changed, Asked}
 
 -- once at least
 once_at_least : (times : ℕ) → max times 1 ≡ turns_of times
@@ -39,10 +40,10 @@ changed_held code words zero l was now reply r c = c.held
 changed_held code words (suc n) l was now reply r c = c.held
 
 -- one turn of a reading; the list may have been filled and read into before
-pub asked : (code : ℕ) (words : List ℕ) (l : Ledger) (was before list now : List ℕ) (r : Result ℕ Refusal) → length before ≡ length was →
-    list ≡ replicate (length before) fill_word → Reads (read (reading_in code words (length list)) (contents l)) list now r →
+pub asked : (code kind : ℕ) (words : List ℕ) (l : Ledger) (was before list now : List ℕ) (r : Result ℕ Refusal) → kind ≡ code - 14 → length before ≡ length was →
+    list ≡ replicate (length before) fill_word → Reads (read (reading_of kind words (length list)) (contents l)) list now r →
     Asked code words l was now r
-asked code words l was before list now r s f reads =
+asked code kind words l was before list now r k s f reads =
     let e : list ≡ filled was = filled_anew was list (f ∙ ap (λ n. replicate n fill_word) s) in
     let n : length list ≡ length was = ap length e ∙ length-map was (λ w. fill_word) in
-    rw (n, e) at reads
+    rw (k, n, e) at reads

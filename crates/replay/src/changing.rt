@@ -1,5 +1,4 @@
 // Making, and the changing calls of a script.
-ghost use Rattle.std.specs.Prelude.{◌<◌};
 ghost use Rattle.ledger.specs.Contents.{Held};
 ghost use Rattle.replay.specs.Lines.{Renewed, Changed};
 
@@ -9,7 +8,7 @@ use dispatch::changing;
 use ledger::Ledger;
 use lists::slices::word_at;
 use script::FILL;
-use script::calls::NEW;
+use script::calls::{Code, NEW};
 use types::Shard;
 
 // A making, as often as is said, and once at least.
@@ -28,13 +27,14 @@ pub fn renew(ledger: &mut Ledger, words: &[u64], times: u64) -> Reply
     done.said
 }
 
-// The call of a code as often as is said, and once at least: each time on the ledger that the last handed back and on the list filled anew.
+// The call of a code as often as is said, and once at least: each time on the ledger that the last handed back and on the list filled anew. A
+// kind says how far behind `new` the call stands in the table.
 #[tactic(auto, using(crate::proofs::Replied::changed))]
-pub fn apply(ledger: &mut Ledger, code: usize, words: &[u64], list: &mut [u64], times: u64) -> Reply
-    requires { Held ledger.old × (1 < code) }
-    ensures { Changed code words.now times ledger.old list.old list.new result ledger.new }
+pub fn apply(ledger: &mut Ledger, code: Code, words: &[u64], list: &mut [u64], times: u64) -> Reply
+    requires { Held ledger.old }
+    ensures { Changed code.place words.now times ledger.old list.old list.new result ledger.new }
 {
-    let kind = (code - NEW) as u64;
+    let kind = code.place.saturating_sub(NEW) as u64;
     list.fill(FILL);
     let done = changing::apply(*ledger, kind, words, list, times.max(1), FILL);
     *ledger = done.ledger;

@@ -25,9 +25,8 @@ pub fn put_ledger<W: Write>(writer: &mut Writer<W>, ledger: &Ledger) {
 
 // By rising transaction.
 fn put_entries<W: Write>(writer: &mut Writer<W>, ledger: &Ledger) {
-    for i in 0..ledger.roster.len {
-        let slot = ledger.roster.slots[i];
-        entries::put_entry(writer, &ledger.entries[slot]);
+    for slot in &ledger.roster.slots[..ledger.roster.len] {
+        entries::put_entry(writer, &ledger.entries[*slot]);
     }
 }
 
@@ -44,10 +43,10 @@ fn put_departure<W: Write>(writer: &mut Writer<W>, d: Departure) {
 
 // Record and transaction of each pair.
 fn put_index<W: Write>(writer: &mut Writer<W>, issuers: &Issuers) {
-    for i in 0..issuers.len {
-        let tx = Transaction(issuers.transactions[i]);
-        let mut words = [issuers.records[i], 0];
-        tx.put(&mut words, 1);
+    let n = issuers.len;
+    for (record, tx) in issuers.records[..n].iter().zip(&issuers.transactions[..n]) {
+        let mut words = [*record, 0];
+        Transaction(*tx).put(&mut words, 1);
         writer.put_words(&words);
     }
 }

@@ -67,7 +67,7 @@ fn put_marks<W: Write>(writer: &mut Writer<W>, e: &Entry) {
     writer.put_words(&e.marks[..e.marks_len as usize]);
 }
 
-// How many destinations edges have in all.
+// How many destinations edges have in all. Of bytes, and bounded by eight edges of four, where the total of lists is of words in a record.
 fn total(sizes: &[u8]) -> usize
     requires { (length sizes.now ≤ 8) × (all (λ s. leb s 4) sizes.now ≡ true) }
     ensures { result ≤ 32 }

@@ -8,7 +8,7 @@ mod reading;
 mod replies;
 
 use calls::making;
-use script::calls::{DUMP, NEW, QUESTIONS};
+use script::calls::{DUMP, NEW, PRUNE};
 use script::{Line, Reader, Writer};
 use types::Shard;
 
@@ -36,18 +36,16 @@ fn main(rt: HostRuntime) {
             Line::Call(call) => call,
             _ => return replies::stop(&mut writer, at),
         };
-        let code = call.code.place;
+        let code = call.code;
         let times = repeat.take().unwrap_or(1);
         let words = &numbers[..call.count];
         let list = &mut lent[..call.lent];
-        let reply = if code == NEW {
-            changing::renew(&mut ledger, words, times)
-        } else if code < QUESTIONS {
-            changing::apply(&mut ledger, code, words, list, times)
-        } else if code < DUMP {
-            reading::ask(&ledger, code, words, list, times).map(|answer| [answer, 0, 0])
-        } else {
-            Ok([0; 3])
+        // By the order of the table: the changing calls up to `prune`, the readings up to `dump`, of which `put_reply` writes what is held.
+        let reply = match code.place {
+            NEW => changing::renew(&mut ledger, words, times),
+            ..=PRUNE => changing::apply(&mut ledger, code, words, list, times),
+            ..DUMP => reading::ask(&ledger, code, words, list, times).map(|answer| [answer, 0, 0]),
+            _ => Ok([0; 3]),
         };
         replies::put_reply(&mut writer, call, reply, &ledger, list);
     }

@@ -1,26 +1,26 @@
 // The readings of a script.
-ghost use Rattle.std.specs.Prelude.{◌<◌};
 ghost use Rattle.ledger.specs.Contents.{Held};
 ghost use Rattle.replay.specs.Lines.{Asked};
 
 use dispatch::reading;
 use ledger::Ledger;
 use script::FILL;
-use script::calls::PRUNE;
+use script::calls::{Code, PRUNE};
 use types::refusal::Refusal;
 
-// The reading of a code as often as is said, and once at least: each time of the same ledger and on the list filled anew.
+// The reading of a code as often as is said, and once at least: each time of the same ledger and on the list filled anew. A
+// kind says how far behind `prune` the reading stands in the table.
 pub fn ask(
     ledger: &Ledger,
-    code: usize,
+    code: Code,
     words: &[u64],
     list: &mut [u64],
     times: u64,
 ) -> Result<u64, Refusal>
-    requires { Held ledger.now × (14 < code) }
-    ensures { Asked code words.now ledger.now list.old list.new result }
+    requires { Held ledger.now }
+    ensures { Asked code.place words.now ledger.now list.old list.new result }
 {
-    let kind = (code - PRUNE) as u64;
+    let kind = code.place.saturating_sub(PRUNE) as u64;
     let mut answer = Ok(0);
     for turn in 0..times.max(1) {
         list.fill(FILL);

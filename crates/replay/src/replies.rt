@@ -1,9 +1,9 @@
 // The lines that are written: the answer to a call, and the one that stops a script.
 ghost use Rattle.std.specs.Prelude.{◌≤◌};
-ghost use Rattle.ledger.specs.Contents.{Held};
 
 use crate::dump;
 use ledger::Ledger;
+use script::calls::Code;
 use script::{Call, Writer, calls as codes};
 use std::io::Write;
 use types::refusal::Refusal;
@@ -11,11 +11,11 @@ use types::refusal::Refusal;
 // What a call says: its answers, 0 where it has fewer than three, or why it is turned away.
 pub type Reply = Result<[u64; 3], Refusal>;
 
-// How many answers a call has.
-fn answers_of(code: usize) -> usize
+// How many answers a call has. No column of the table: script knows nothing of what a call answers.
+fn answers_of(code: Code) -> usize
     ensures { result ≤ 3 }
 {
-    match code {
+    match code.place {
         codes::NEW | codes::CERTIFY | codes::SETTLED | codes::RETURNED => 0,
         codes::RECORD_TERMINAL | codes::STAMP_TERMINAL | codes::DUMP => 0,
         codes::PRUNE => 2,
@@ -30,19 +30,16 @@ pub fn put_reply<W: Write>(
     reply: Reply,
     ledger: &Ledger,
     list: &[u64],
-)
-    requires { Held ledger.now }
-{
-    let code = call.code.place;
-    put_answers(writer, code, reply);
-    if code == codes::DUMP {
+) {
+    put_answers(writer, call.code, reply);
+    if call.code.place == codes::DUMP {
         dump::put_ledger(writer, ledger);
     }
     put_list(writer, call, list);
 }
 
 // status { " " answer }; after a refusal no answer. What `dump` says follows by itself.
-fn put_answers<W: Write>(writer: &mut Writer<W>, code: usize, reply: Reply) {
+fn put_answers<W: Write>(writer: &mut Writer<W>, code: Code, reply: Reply) {
     match reply {
         Ok(answers) => {
             writer.put_number(0);

@@ -1,17 +1,18 @@
 -- Laws of tokens: the first token of a text and what stands behind it, one number more, and the lent count.
 -- Assumes nothing.
-use Prim.Native.Nat.{ℕ, zero, suc, ◌+◌, ◌-◌, ◌≤◌, ◌<◌}
+use Prim.Native.Nat.{ℕ, zero, suc, ◌+◌, ◌≤◌, ◌<◌}
 use mathlib.Core.Path.{◌≡◌, refl, sym, ap, ◌∙◌}
 use mathlib.Core.Bool.{Bool, true, false, cond}
 use mathlib.Core.List.{List, [], ◌∷◌, ◌++◌, append_assoc, append-nil}
 use native.Mathlib.Omega.{arith}
 use native.Mathlib.Numerals.{add-one}
 use lib.Dec.{eqb, ltb, leb}
-use lib.ListN.{length, take, drop, set, drop_of_length-le}
-use lib.Seq.{drop-cons, drop-drop, take-suc-set}
+use lib.ListN.{length, take, drop, set}
+use lib.Seq.{take-suc-set}
 use borrow.Author.Tests.{leb-true, ltb-true, lt-ltb, le-ltb}
 use Rattle.std.specs.Prelude.{◌==◌, Option, Some, None, IfSome}
 use Rattle.std.specs.List.{position_or_len}
+use Rattle.std.proofs.lemmas.List.{length-drop}
 use Rattle.std.proofs.lemmas.List.Recursion.{is_position_or_len}
 use Rattle.std.proofs.lemmas.List.Sums.{prefix_len-le-length}
 use Rattle.std.proofs.lemmas.Option.{IfSome_then}
@@ -42,43 +43,32 @@ cut (b ∷ l) = cut' (eqb b 32) b l (cut l)
     cut' true b l e = refl
     cut' false b l e = ap (onto b) e
 
--- from a space on, or from the end
-pub turn : (l : List ℕ) (i e : ℕ) → i < length l → e ≡ i + 1 + word_length (drop (i + 1) l) →
-    behind (drop i l) ≡ take (e - (i + 1)) (drop (i + 1) l) ∷ behind (drop e l)
+-- the token behind a text's first byte, and none behind an empty text
+pub next_token : (text l t r : List ℕ) (b : ℕ) → text ≡ b ∷ l → t ≡ take (word_length l) l → r ≡ drop (word_length l) l → behind text ≡ t ∷ behind r
 unfolding behind
-turn l i e h p =
-    let q : e - (i + 1) ≡ word_length (drop (i + 1) l) = omega arith in
-    rw (drop-cons l i 0 h, ← add-one i, q, p, ← drop-drop (word_length (drop (i + 1) l)) (i + 1) l) (cut (drop (i + 1) l))
+next_token text l t r b e p q = rw (e, p, q) (cut l)
 
--- the lent count: none, two tokens or more, one token
-pub lent_none : (l : List ℕ) (i k : ℕ) → length l ≤ i → None ≡ lent_of k (behind (drop i l))
+pub next_shorter : (text l r : List ℕ) (b : ℕ) → text ≡ b ∷ l → r ≡ drop (word_length l) l → length r < length text
+next_shorter text l r b e q = rw (e, q, length-drop (word_length l) l) (omega arith)
+
+pub behind_none : (text : List ℕ) → length text ≡ 0 → behind text ≡ []
+unfolding behind
+behind_none [] h = refl
+behind_none (b ∷ l) h = absurd (omega arith)
+
+-- the lent count: none, one token, two tokens or more
+pub lent_none : (k : ℕ) (ts : List (List ℕ)) → ts ≡ [] → None ≡ lent_of k ts
+unfolding lent_of
+lent_none k ts e = rw e refl
+
+pub lent_one : (k : ℕ) (text t rest : List ℕ) → behind text ≡ t ∷ behind rest → length rest ≡ 0 → lent_then k (number_of t) ≡ lent_of k (behind text)
+unfolding lent_of
+lent_one k text t rest e h = rw (e, behind_none rest h) refl
+
+pub lent_several : (k : ℕ) (text t rest : List ℕ) → behind text ≡ t ∷ behind rest → (length rest ≡ 0 → ⊥) → None ≡ lent_of k (behind text)
 unfolding lent_of behind
-lent_none l i k h = rw (drop_of_length-le l {i = i} h) refl
-
-several : (k : ℕ) (t : List ℕ) (l : List ℕ) → None ≡ lent_of k (t ∷ tokens l)
-unfolding lent_of
-several k t l = rw (cut l) refl
-
-behind_on : (l : List ℕ) (e : ℕ) → e < length l → behind (drop e l) ≡ tokens (drop (suc e) l)
-unfolding behind
-behind_on l e q = rw (drop-cons l e 0 q) refl
-
-behind-end : (l : List ℕ) (e : ℕ) → length l ≤ e → behind (drop e l) ≡ []
-unfolding behind
-behind-end l e q = rw (drop_of_length-le l {i = e} q) refl
-
-lent_alone : (k : ℕ) (t : List ℕ) (ts : List (List ℕ)) → ts ≡ [] → lent_of k (t ∷ ts) ≡ lent_then k (number_of t)
-unfolding lent_of
-lent_alone k t ts r = rw r refl
-
-pub lent_several : (l : List ℕ) (i e k : ℕ) → i < length l → e ≡ i + 1 + word_length (drop (i + 1) l) → e < length l → None ≡ lent_of k (behind (drop i l))
-lent_several l i e k h p q =
-    let t : List ℕ = take (e - (i + 1)) (drop (i + 1) l) in
-    several k t (drop (suc e) l) ∙ sym (ap (lent_of k) (turn l i e h p ∙ ap (λ (m : List (List ℕ)). t ∷ m) (behind_on l e q)))
-
-pub lent_one : (l : List ℕ) (i e k : ℕ) → i < length l → e ≡ i + 1 + word_length (drop (i + 1) l) → length l ≤ e →
-    lent_then k (number_of (take (e - (i + 1)) (drop (i + 1) l))) ≡ lent_of k (behind (drop i l))
-lent_one l i e k h p q = sym (ap (lent_of k) (turn l i e h p) ∙ lent_alone k (take (e - (i + 1)) (drop (i + 1) l)) (behind (drop e l)) (behind-end l e q))
+lent_several k text t [] e h = absurd (h refl)
+lent_several k text t (b ∷ l) e h = rw (e, cut l) refl
 
 -- what stands behind a name is within bounds
 number_small : (k : ℕ) (x : Option ℕ) → k ≤ 2048 → IfSome (lent_then k x) Small
@@ -104,52 +94,50 @@ cond_small : (t : Bool) (a b : Option Tail) → IfSome a Small → IfSome b Smal
 cond_small true a b x y = x
 cond_small false a b x y = y
 
-pub tail_small : (k : ℕ) (ts : List (List ℕ)) → k ≤ 2048 → IfSome (tail_of k ts) Small
+tail_small : (k : ℕ) (ts : List (List ℕ)) → k ≤ 2048 → IfSome (tail_of k ts) Small
 unfolding tail_of
 tail_small k [] h = (h, tt)
 tail_small k (t ∷ ts) h =
     cond_small (same_text t lent_text) _ _ (lent-small k ts h)
     (on_small (number_of t) (ltb k 2048) (tail_of (k + 1) ts) (λ e. tail_small (k + 1) ts (omega (arith, ltb-true k 2048 e))))
 
+pub small : (t : Tail) (ts : List (List ℕ)) → Some t ≡ tail_of 0 ts → Small t
+small t ts e = let h = tail_small 0 ts (omega arith) in rw (← e) at h
+
 -- one token more
-module _ (l : List ℕ) (i e : ℕ) (h : i < length l) (p : e ≡ i + 1 + word_length (drop (i + 1) l)) where
-  abbrev token : List ℕ
-  token = take (e - (i + 1)) (drop (i + 1) l)
-
-  pub tail_lent : (k : ℕ) → true ≡ same_text token lent_text → tail_of k (behind (drop i l)) ≡ lent_of k (behind (drop e l))
+module _ (ts us : List (List ℕ)) (t : List ℕ) (e : ts ≡ t ∷ us) where
+  pub tail_lent : (k : ℕ) → true ≡ same_text t lent_text → tail_of k ts ≡ lent_of k us
   unfolding tail_of
-  tail_lent k s = ap (tail_of k) (turn l i e h p) ∙ rw (← s) refl
+  tail_lent k s = ap (tail_of k) e ∙ rw (← s) refl
 
-  pub numbers-lent : true ≡ same_text token lent_text → numbers_of (behind (drop i l)) ≡ []
+  pub numbers-lent : true ≡ same_text t lent_text → numbers_of ts ≡ []
   unfolding numbers_of
-  numbers-lent s = ap numbers_of (turn l i e h p) ∙ rw (← s) refl
+  numbers-lent s = ap numbers_of e ∙ rw (← s) refl
 
-  pub tail_number : (k n : ℕ) → false ≡ same_text token lent_text → Some n ≡ number_of token → k < 2048 →
-      tail_of k (behind (drop i l)) ≡ tail_of (k + 1) (behind (drop e l))
+  pub tail_number : (k n : ℕ) → false ≡ same_text t lent_text → Some n ≡ number_of t → k < 2048 → tail_of k ts ≡ tail_of (k + 1) us
   unfolding tail_of
-  tail_number k n s x b = ap (tail_of k) (turn l i e h p) ∙ rw (← s, ← x, lt-ltb k 2048 b) refl
+  tail_number k n s x b = ap (tail_of k) e ∙ rw (← s, ← x, lt-ltb k 2048 b) refl
 
-  pub numbers_number : (n : ℕ) → false ≡ same_text token lent_text → Some n ≡ number_of token →
-      numbers_of (behind (drop i l)) ≡ n ∷ numbers_of (behind (drop e l))
+  pub numbers_number : (n : ℕ) → false ≡ same_text t lent_text → Some n ≡ number_of t → numbers_of ts ≡ n ∷ numbers_of us
   unfolding numbers_of
-  numbers_number n s x = ap numbers_of (turn l i e h p) ∙ rw (← s, ← x) refl
+  numbers_number n s x = ap numbers_of e ∙ rw (← s, ← x) refl
 
-  pub tail_not : (k : ℕ) → false ≡ same_text token lent_text → None ≡ number_of token → tail_of k (behind (drop i l)) ≡ None
+  pub tail_not : (k : ℕ) → false ≡ same_text t lent_text → None ≡ number_of t → tail_of k ts ≡ None
   unfolding tail_of
-  tail_not k s x = ap (tail_of k) (turn l i e h p) ∙ rw (← s, ← x) refl
+  tail_not k s x = ap (tail_of k) e ∙ rw (← s, ← x) refl
 
-  pub tail_many : (k n : ℕ) → false ≡ same_text token lent_text → Some n ≡ number_of token → 2048 ≤ k → tail_of k (behind (drop i l)) ≡ None
+  pub tail_many : (k n : ℕ) → false ≡ same_text t lent_text → Some n ≡ number_of t → 2048 ≤ k → tail_of k ts ≡ None
   unfolding tail_of
-  tail_many k n s x b = ap (tail_of k) (turn l i e h p) ∙ rw (← s, ← x, le-ltb k 2048 b) refl
+  tail_many k n s x b = ap (tail_of k) e ∙ rw (← s, ← x, le-ltb k 2048 b) refl
 
--- the end of the line
-pub tail_end : (l : List ℕ) (i k : ℕ) → length l ≤ i → tail_of k (behind (drop i l)) ≡ Some (record { count = k; lent = None })
-unfolding tail_of behind
-tail_end l i k h = rw (drop_of_length-le l {i = i} h) refl
+-- no token more
+pub tail_end : (ts : List (List ℕ)) (k : ℕ) → ts ≡ [] → tail_of k ts ≡ Some (record { count = k; lent = None })
+unfolding tail_of
+tail_end ts k e = rw e refl
 
-pub numbers-end : (l : List ℕ) (i : ℕ) → length l ≤ i → numbers_of (behind (drop i l)) ≡ []
-unfolding numbers_of behind
-numbers-end l i h = rw (drop_of_length-le l {i = i} h) refl
+pub numbers-end : (ts : List (List ℕ)) → ts ≡ [] → numbers_of ts ≡ []
+unfolding numbers_of
+numbers-end ts e = rw e refl
 
 -- a lent count has the numbers before it
 lent-count : (k : ℕ) (ts : List (List ℕ)) → IfSome (lent_of k ts) (λ t. t.count ≡ k)
@@ -165,10 +153,6 @@ lent-count k (t ∷ []) = one (number_of t)
     one (Some n) = pick n (leb n 4096)
     one None = tt
 lent-count k (t ∷ u ∷ ts) = tt
-
--- what a result that equals a tail has
-pub small_of : (r t : Option Tail) → r ≡ t → IfSome t Small → IfSome r Small
-small_of r t e h = rw e h
 
 -- one number stored, and none left
 pub stored_number : (numbers : List ℕ) (k n : ℕ) (rest rest' all : List ℕ) → k < length numbers → rest ≡ n ∷ rest' → take k numbers ++ rest ≡ all →

@@ -21,8 +21,6 @@ pub const STAMP_TERMINAL: usize = 13;
 
 pub const PRUNE: usize = 14;
 
-pub const QUESTIONS: usize = 15;
-
 pub const DUMP: usize = 32;
 
 // A call's place in the table.

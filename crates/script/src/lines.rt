@@ -4,10 +4,10 @@
 // does not fit is made shorter where that does not change its meaning: a comment is cut to its first
 // byte, and a zero that leads a number is dropped. So a line that still does not fit is malformed: 2,048
 // numbers of 20 digits, a name and a lent count take fewer than 43,100 bytes.
-ghost use Rattle.std.specs.Prelude.{◌+◌, ◌≤◌, ◌<◌, ◌≡◌, length, IfSome, IfOk};
+ghost use Rattle.std.specs.Prelude.{◌≤◌, ◌<◌, ◌≡◌, length, IfSome, IfOk};
 
 use crate::numbers::is_digit;
-use crate::tokens::first_of;
+use crate::tokens::before;
 use std::io::Read;
 
 // A line that does not fit.
@@ -64,7 +64,7 @@ impl<R: Read> Reader<R> {
         // Every loop must end; a remark may go on as long as the input does, which is not read 2^64 times.
         for _ in 0..u64::MAX {
             let start = self.next;
-            let end = first_of(b'\n', &self.buf[..self.filled], start);
+            let end = start + before(b'\n', &self.buf[start..self.filled]);
             if end < self.filled {
                 self.next = end + 1;
                 return Some(Ok((start, end)));
@@ -124,7 +124,8 @@ fn room(buf: &mut [u8], from: usize, to: usize) -> usize
     squeeze(buf)
 }
 
-// Makes the unfinished line that fills buf shorter, with the same meaning.
+// Makes the unfinished line that fills buf shorter, with the same meaning. By place, since the byte after is looked at while those before
+// are written.
 fn squeeze(buf: &mut [u8]) -> usize
     requires { 0 < length buf.old }
     ensures { (0 < result) × (result ≤ length buf.old) × (length buf.new ≡ length buf.old) }
@@ -147,7 +148,8 @@ fn squeeze(buf: &mut [u8]) -> usize
     kept + 1
 }
 
-// Whether a byte is a zero that leads a number: it follows a space, and a digit follows it.
+// Whether a byte is a zero that leads a number: it follows a space, and a digit follows it. Three bytes compared in one line, which the
+// name says.
 fn leads(before: u8, byte: u8, after: u8) -> bool {
     before == b' ' && byte == b'0' && is_digit(after)
 }

@@ -3,8 +3,8 @@
 // line = name { " " number } [ " lent " number ]. Zeros may lead a number. A lent count is 0 to 4,096, comes last
 // and is not among the 2,048 numbers. `repeat` has one number from 1 and no lent. To a call that
 // takes no list nothing is lent.
-ghost use Rattle.std.specs.Prelude.{◌≡◌, ◌≤◌, ◌<◌, IsTrue, IfSome, MatchResult, cond, false, length, take, drop};
-ghost use Rattle.script.specs.Calls.{takes_list, Takes};
+ghost use Rattle.std.specs.Prelude.{◌≡◌, IsTrue, IfSome, MatchResult, false, take};
+ghost use Rattle.script.specs.Calls.{Takes};
 ghost use Rattle.script.specs.Grammar.{behind, tail_of, numbers_of, lent_of, lent_number, is_remark, Small};
 ghost use Rattle.script.specs.Parse.{Says, Fits};
 ghost use Rattle.script.specs.declared.line.Line.{Line};
@@ -56,13 +56,13 @@ fn call_in(line: &[u8], numbers: &mut [u64; 2048]) -> Option<Line>
     requires { is_remark line.now ≡ false }
     ensures { IfSome result (Says line.now numbers.new) }
 {
-    let end = tokens::token_end(line, 0);
-    let code = calls::code_of(&line[..end])?;
-    let tail = tail_of(line, end, numbers)?;
+    let (name, rest) = tokens::cut(line);
+    let code = calls::code_of(name)?;
+    let tail = tail_of(rest, numbers)?;
     checked(code, tail, numbers[0])
 }
 
-// A call with what stands behind its name, where the two fit.
+// A call with what stands behind its name, where the two fit; it is lent nothing where it takes no list.
 fn checked(code: Code, tail: Tail, first: u64) -> Option<Line>
     requires { Small tail }
     ensures { IfSome result (Fits code.place tail first) }
@@ -73,7 +73,16 @@ fn checked(code: Code, tail: Tail, first: u64) -> Option<Line>
     if code.place == REPEAT {
         return repeat(tail, first);
     }
-    Some(Line::Call(call(code, tail.count, tail.lent.unwrap_or(0))))
+    let lent = if calls::takes_list(code) {
+        tail.lent.unwrap_or(0)
+    } else {
+        0
+    };
+    Some(Line::Call(Call {
+        code,
+        count: tail.count,
+        lent,
+    }))
 }
 
 // A line that has the next call made so often; it lends nothing.
@@ -93,36 +102,18 @@ fn takes(code: Code, count: usize) -> bool
     calls::count_of(code).is_none_or(|own| own == count)
 }
 
-// A call, lent nothing where it takes no list.
-fn call(code: Code, count: usize, lent: usize) -> Call
-    requires { (0 < code.place) × (count ≤ 2048) × (lent ≤ 4096) × Takes code.place count }
-    ensures { (result.code ≡ code) × (result.count ≡ count) × (result.lent ≡ cond (takes_list code.place) lent 0) }
+// What stands behind a name, from its end on: numbers, and the lent count.
+fn tail_of(text: &[u8], numbers: &mut [u64; 2048]) -> Option<Tail>
+    ensures value { result ≡ tail_of 0 (behind text.now) }
+    ensures numbers_after { IfSome result (λ t. take t.count numbers.new ≡ numbers_of (behind text.now)) }
 {
-    let words = if calls::takes_list(code) { lent } else { 0 };
-    Call {
-        code,
-        count,
-        lent: words,
-    }
-}
-
-// What stands from `from` on, where the line ends or a space stands: numbers, and the lent count. The place goes on by tokens and not by
-// bytes; `split` gives the tokens, but its iterator, handed on for the lent count, asks for longer clauses than a place does.
-fn tail_of(line: &[u8], from: usize, numbers: &mut [u64]) -> Option<Tail>
-    requires { (from ≤ length line.now) × (2048 ≡ length numbers.old) }
-    ensures count_bound { IfSome result Small }
-    ensures value { result ≡ tail_of 0 (behind (drop from line.now)) }
-    ensures numbers_after { IfSome result (λ t. take t.count numbers.new ≡ numbers_of (behind (drop from line.now))) }
-{
-    let mut at = from;
+    let mut rest = text;
     let mut count = 0;
-    while at < line.len() {
-        let begin = at + 1;
-        let end = tokens::token_end(line, begin);
-        let token = &line[begin..end];
+    // A `while`, since the rest goes on by tokens, and what stands behind `lent` is handed on.
+    while let Some((token, next)) = tokens::next(rest) {
         let is_lent = token == b"lent".as_slice();
         if is_lent {
-            return with_lent(line, end, count);
+            return with_lent(next, count);
         }
         let n = numbers::value_of(token)?;
         if count >= 2048 {
@@ -130,25 +121,21 @@ fn tail_of(line: &[u8], from: usize, numbers: &mut [u64]) -> Option<Tail>
         }
         numbers[count] = n;
         count += 1;
-        at = end;
+        rest = next;
     }
     Some(Tail { count, lent: None })
 }
 
-// The lent count, which begins behind the space at `at` and ends the line.
-fn with_lent(line: &[u8], at: usize, count: usize) -> Option<Tail>
-    requires { (at ≤ length line.now) × (count ≤ 2048) }
-    ensures { result ≡ lent_of count (behind (drop at line.now)) }
+// The lent count, which begins behind a space and ends the text.
+#[tactic(auto, using(crate::proofs::Grammar::lent_none, crate::proofs::Grammar::lent_several))]
+fn with_lent(text: &[u8], count: usize) -> Option<Tail>
+    ensures { result ≡ lent_of count (behind text.now) }
 {
-    if at == line.len() {
+    let (token, rest) = tokens::next(text)?;
+    if !rest.is_empty() {
         return None;
     }
-    let begin = at + 1;
-    let end = tokens::token_end(line, begin);
-    if end < line.len() {
-        return None;
-    }
-    lent_number(numbers::value_of(&line[begin..end])?, count)
+    lent_number(numbers::value_of(token)?, count)
 }
 
 fn lent_number(lent: u64, count: usize) -> Option<Tail>

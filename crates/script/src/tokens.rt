@@ -1,26 +1,28 @@
-// Tokens of a line: where one ends.
-ghost use Rattle.std.specs.Prelude.{◌≡◌, ◌+◌, ◌≤◌, length, drop};
-ghost use Rattle.script.specs.Grammar.{up_to, word_length};
+// Tokens of a line.
+ghost use Rattle.std.specs.Prelude.{◌≡◌, ◌≤◌, ◌<◌, [], ◌∷◌, length, take, drop, IfSome, MatchOption};
+ghost use Rattle.script.specs.Grammar.{up_to, word_length, behind};
 
 // How many bytes stand before it, or all where it is not there.
-fn before(byte: u8, text: &[u8]) -> usize
+pub fn before(byte: u8, text: &[u8]) -> usize
     ensures { (result ≤ length text.now) × (result ≡ up_to byte text.now) }
 {
     text.iter().take_while(|b| **b != byte).count()
 }
 
-// The first place from `from` on where the byte stands, or the text's end.
-pub fn first_of(byte: u8, text: &[u8], from: usize) -> usize
-    requires { from ≤ length text.now }
-    ensures { (from ≤ result) × (result ≤ length text.now) × (result ≡ from + up_to byte (drop from text.now)) }
+// The first token, and what stands from its end on: a space and more, or nothing.
+pub fn cut(text: &[u8]) -> (&[u8], &[u8])
+    ensures token { result.0.now ≡ take (word_length text.now) text.now }
+    ensures rest { result.1.now ≡ drop (word_length text.now) text.now }
 {
-    from + before(byte, &text[from..])
+    text.split_at(before(b' ', text))
 }
 
-// The end of the token that begins at from: the next space, or the line's end.
-pub fn token_end(line: &[u8], from: usize) -> usize
-    requires { from ≤ length line.now }
-    ensures { (from ≤ result) × (result ≤ length line.now) × (result ≡ from + word_length (drop from line.now)) }
+// The token behind the space with which a text begins, and what stands from its end on; none where the text is empty.
+#[tactic(auto, using(crate::proofs::Grammar::next_shorter, crate::proofs::Grammar::behind_none))]
+pub fn next(text: &[u8]) -> Option<(&[u8], &[u8])>
+    ensures token { MatchOption result (behind text.now ≡ []) (λ p. behind text.now ≡ p.0.now ∷ behind p.1.now) }
+    ensures shorter { IfSome result (λ p. length p.1.now < length text.now) }
 {
-    first_of(b' ', line, from)
+    let (_, behind) = text.split_first()?;
+    Some(cut(behind))
 }
