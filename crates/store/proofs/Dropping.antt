@@ -5,10 +5,9 @@ use mathlib.Core.Path.{◌≡◌, refl, sym, ap, ◌∙◌}
 use mathlib.Core.Bool.{Bool, true, false, cond, not, ◌&&◌, ◌||◌}
 use mathlib.Core.List.{List, [], ◌∷◌, ◌++◌, append-nil}
 use native.Mathlib.Omega.{arith}
-use native.Mathlib.Numerals.{add-one}
 use lib.Dec.{eqb}
-use lib.ListN.{length, take, drop, get_or, set}
-use lib.Seq.{take-suc-set, append_snoc}
+use lib.ListN.{length, take, drop, get_or}
+use lib.Seq.{append_snoc}
 use Rattle.lists.specs.Lists.{keep, has, self}
 use Rattle.lists.proofs.Tests.{eqb_swap}
 use Rattle.lists.proofs.Keep.{keep_same, keep_and, keep_all}
@@ -35,11 +34,10 @@ module _ (stay : List Bool) (keys : List ℕ) (i n : ℕ) (h₂ : n ≤ length s
       coming_next : i < n → coming i ≡ cond (get_or stay i false) (coming (i + 1)) (get_or keys i 0 ∷ coming (i + 1))
       coming_next h = rw (rest-cons false stay i n h h₂, rest-cons 0 keys i n h h₃)
 
-  pub front_leaves : (all out : List ℕ) (w : ℕ) → w < length out → i < n → get_or stay i false ≡ false → take w out ++ coming i ≡ all →
-      take (w + 1) (set out w (get_or keys i 0)) ++ coming (i + 1) ≡ all
-  front_leaves all out w h h₁ f e =
+  pub front_leaves : (all xs ys : List ℕ) → i < n → get_or stay i false ≡ false → ys ≡ xs ++ get_or keys i 0 ∷ [] → xs ++ coming i ≡ all → ys ++ coming (i + 1) ≡ all
+  front_leaves all xs ys h₁ f p e =
       let next : coming i ≡ get_or keys i 0 ∷ coming (i + 1) = rw (rest-cons false stay i n h₁ h₂, rest-cons 0 keys i n h₁ h₃, f) in
-      rw (add-one w, take-suc-set out w (get_or keys i 0) h) (append_snoc (take w out) (get_or keys i 0) (coming (i + 1)) ∙ ap (λ m. take w out ++ m) (sym next) ∙ e)
+      rw (p, append_snoc xs (get_or keys i 0) (coming (i + 1))) (ap (λ m. xs ++ m) (sym next) ∙ e)
 
   pub front-end : (all xs : List ℕ) → n ≤ i → xs ++ coming i ≡ all → xs ≡ all
   front-end all xs h₁ e = sym (append-nil xs) ∙ ap (λ m. xs ++ m) (sym (rw (rest_end stay i n h₁ h₂))) ∙ e
