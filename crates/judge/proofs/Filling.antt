@@ -1,13 +1,12 @@
 -- What is seen of the departures on file, gone through from the front.
 -- Assumes nothing.
-use Prim.Native.Nat.{ℕ, ◌≤◌, ◌<◌}
+use Prim.Native.Nat.{ℕ, ◌<◌}
 use mathlib.Core.Path.{◌≡◌, sym, ◌∙◌}
 use mathlib.Core.Bool.{true}
 use mathlib.Core.List.{List, map}
 use native.Mathlib.Omega.{arith}
 use lib.Count.{count_leading_zeros}
-use lib.ListN.{length, take, get_or, get_or-map, length-map}
-use lib.Seq.{length-take-le, get_or-take}
+use lib.ListN.{length, get_or, get_or-map, length-map}
 use Rattle.lists.specs.Lists.{Every}
 use Rattle.lists.proofs.Distinct.{every_at}
 use Rattle.lists.proofs.Maps.{get_d_any}
@@ -21,17 +20,12 @@ use Rattle.store.specs.Departures.{plain_departure}
 pub few_zeros : (n : ℕ) → is_shard n ≡ true → count_leading_zeros 64 n < 64
 few_zeros n h = omega (arith, (topped n h).zeros)
 
--- what is said of the list on file at a place, by the array
-module _ (items : List Departure) (n i : ℕ) (h : n ≤ length items) (k : i < n) where
-  many : length (map plain_departure (take n items)) ≡ n
-  many = simp length-map (length-take-le n items h)
+-- what is said of the departures on file at a place, by those stored
+module _ (items : List Departure) (i : ℕ) (h : i < length items) where
+  pub place_on_file : (p : plain.Departure) (d : Departure) → get_or (map plain_departure items) i p ≡ plain_departure (get_or items i d)
+  place_on_file p d = get_d_any (map plain_departure items) i p (plain_departure d) (omega (arith, length-map items plain_departure)) ∙ get_or-map plain_departure items i d
 
-  pub place_on_file : (p : plain.Departure) (d : Departure) → get_or (map plain_departure (take n items)) i p ≡ plain_departure (get_or items i d)
-  place_on_file p d =
-      get_d_any (map plain_departure (take n items)) i p (plain_departure d) (omega (arith, many))
-      ∙ rw (get_or-map plain_departure (take n items) i d, get_or-take n items i d k)
-
-  pub good_at : (d : Departure) → Every GoodDeparture (map plain_departure (take n items)) → GoodDeparture (plain_departure (get_or items i d))
+  pub good_at : (d : Departure) → Every GoodDeparture (map plain_departure items) → GoodDeparture (plain_departure (get_or items i d))
   good_at d g =
       rw (sym (place_on_file (plain_departure d) d))
-      (every_at GoodDeparture (plain_departure d) i (map plain_departure (take n items)) (omega (arith, many)) g)
+      (every_at GoodDeparture (plain_departure d) i (map plain_departure items) (omega (arith, length-map items plain_departure)) g)

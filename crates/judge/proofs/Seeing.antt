@@ -8,9 +8,10 @@ use mathlib.Core.Option.{Option, none, some}
 use native.Mathlib.Omega.{arith}
 use borrow.Author.Tests.{ltb-true, lt-ltb, leb-true, eq-eqb, ne_eqb}
 use lib.Dec.{eqb, ltb, leb}
-use lib.ListN.{length, take, drop, get_or}
-use lib.Seq.{length-take-le, get_or-take}
+use lib.ListN.{length, drop, get_or}
 use Rattle.lists.specs.Lists.{keep, any}
+use Rattle.lists.specs.Front.{held}
+use Rattle.lists.proofs.Held.{held-length, held_at}
 use Rattle.lists.proofs.Counting.{rest_down}
 use Rattle.lists.proofs.Picked.{any-kept}
 use Rattle.lists.proofs.Distinct.{every_at}
@@ -33,11 +34,11 @@ unseen : Seen
 unseen = record { shard = record { 0 = 0 }; zeros = 0; cut = record { 0 = 0 }; is_readable = false; within = omega arith }
 
 module _ (ds : List Departure) (now : ℕ) (v : View) (s : Shows ds now v) where
-  good-at : (j : ℕ) → j < v.len → GoodDeparture (get_or ds j nobody)
+  good-at : (j : ℕ) → j < v.seen.len → GoodDeparture (get_or ds j nobody)
   good-at j h = every_at GoodDeparture nobody j ds (omega (arith, s.count)) s.good
 
   -- the departure at a place of the view
-  seen_at : (j : ℕ) (x : Seen) → j < v.len → x ≡ get_or v.items j x → Sees now (get_or ds j nobody) x
+  seen_at : (j : ℕ) (x : Seen) → j < v.seen.len → x ≡ get_or v.seen.items j x → Sees now (get_or ds j nobody) x
   seen_at j x h e = subst (λ y. Sees now (get_or ds j nobody) y) (sym e) (s.seen j nobody x h)
 
 -- over a route, by the anchor alone
@@ -112,8 +113,8 @@ said_covers local routes d e r anchor shard zeros cut good es ez ec asks h =
     ∙ rw (asks.anchor, asks.routes)
 
 -- one departure further down: it counts, or the best so far stays
-module _ (ds : List Departure) (now : ℕ) (v : View) (s : Shows ds now v) (anchor route j best lowest : ℕ) (answers : Bool) (p : 0 < j) (k : j ≤ v.len)
-    (h : Best now (counting (keep (over_at anchor route) (drop j ds))) best lowest answers) (x : Seen) (e : x ≡ get_or v.items (j - 1) x) where
+module _ (ds : List Departure) (now : ℕ) (v : View) (s : Shows ds now v) (anchor route j best lowest : ℕ) (answers : Bool) (p : 0 < j) (k : j ≤ v.seen.len)
+    (h : Best now (counting (keep (over_at anchor route) (drop j ds))) best lowest answers) (x : Seen) (e : x ≡ get_or v.seen.items (j - 1) x) where
   pub turn_won : over_by anchor route x.shard.0 x.zeros x.cut.0 && wins x.cut.0 x.shard.0 best lowest ≡ true →
       Best now (counting (keep (over_at anchor route) (drop (j - 1) ds))) x.cut.0 x.shard.0 x.is_readable
   turn_won t =
@@ -170,12 +171,12 @@ abbrev pub seen_open : ℕ → Seen → Bool
 seen_open departed_by x = eqb departed_by x.shard.0 && x.is_readable
 
 pub said-open : (ds : List Departure) (now : ℕ) (v : View) (departed_by : ℕ) → Shows ds now v →
-    any (seen_open departed_by) (take v.len v.items) ≡ any (named_open now departed_by) ds
+    any (seen_open departed_by) (held v.seen) ≡ any (named_open now departed_by) ds
 said-open ds now v departed_by s =
-    let many : length (take v.len v.items) ≡ v.len = length-take-le v.len v.items (omega (arith, v.room, v.item_length)) in
-    alike (seen_open departed_by) (named_open now departed_by) unseen nobody (take v.len v.items) ds (omega (arith, many, s.count)) (λ j h.
+    let many = held-length v.seen in
+    alike (seen_open departed_by) (named_open now departed_by) unseen nobody (held v.seen) ds (omega (arith, many, s.count)) (λ j h.
     let see = s.seen j nobody unseen (omega (arith, many)) in
-    rw (get_or-take v.len v.items j unseen (omega (arith, many)), see.shard, see.readable))
+    rw (held_at v.seen j unseen (omega (arith, many)), see.shard, see.readable))
 
 -- what an entry holds: a departure of its naming shard, or one over a remote route
 pub named-holds : (local : ℕ) (d : Departure) (e : Entry) → is_shard d.shard ≡ true → e.departed_by ≡ d.shard → true ≡ holds local d e

@@ -25,5 +25,5 @@ pub record Sees (now : ℕ) (d : Departure) (x : Seen) : Type 0 where
 -- in order, each departure
 pub record Shows (ds : List Departure) (now : ℕ) (v : View) : Type 0 where
   pub good : Every GoodDeparture ds
-  pub count : length ds ≡ v.len
-  pub seen : (j : ℕ) (d : Departure) (x : Seen) → j < v.len → Sees now (get_or ds j d) (get_or v.items j x)
+  pub count : length ds ≡ v.seen.len
+  pub seen : (j : ℕ) (d : Departure) (x : Seen) → j < v.seen.len → Sees now (get_or ds j d) (get_or v.seen.items j x)

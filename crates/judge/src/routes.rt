@@ -53,10 +53,10 @@ pub fn is_answerable(e: &Entry, local: Shard, view: &View) -> bool
         let mut best = Time(TOP);
         let mut lowest = Shard(TOP);
         let mut answers = true;
-        let mut j = view.len;
+        let mut j = view.seen.len;
         while 0 < j {
             j -= 1;
-            let d = view.items[j];
+            let d = view.seen.items[j];
             let answer = d.is_readable;
             if counts_over(led, d, anchor, best, lowest) {
                 best = d.cut;

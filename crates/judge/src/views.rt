@@ -1,6 +1,7 @@
 // The departures on file as a prune reads them.
-ghost use Rattle.std.specs.Prelude.{◌≡◌, ◌<◌, ◌≤◌, length};
+ghost use Rattle.std.specs.Prelude.{◌≡◌, ◌<◌};
 
+use lists::front::Front;
 use store::departures::{Departure, Departures};
 use types::{Shard, Time};
 
@@ -14,13 +15,9 @@ pub struct Seen {
     pub ghost within: { zeros < 64 },
 }
 
-// A front of fixed memory with its length, since there is no heap.
 #[derive(Clone, Copy)]
 pub struct View {
-    pub items: [Seen; 32],
-    pub len: usize,
-    pub ghost room: { len ≤ 32 },
-    pub ghost item_length: { length items ≡ 32 },
+    pub seen: Front<Seen, 32>,
 }
 
 impl Seen {
@@ -61,18 +58,19 @@ impl View {
             cut: Time(0),
             is_readable: false,
         };
-        let mut items = [none; 32];
-        for i in 0..d.len {
-            items[i] = Seen::of(d.items[i], time);
+        let mut seen = Front::new(none);
+        for departure in &d.items[..d.len] {
+            seen.push(Seen::of(*departure, time));
         }
-        View { items, len: d.len }
+        View { seen }
     }
 
     // Rule 3's question: whether the shard that names an entry has a readable departure.
     pub fn has_readable(&self, departed_by: Shard) -> bool
         ensures { SaysNamed self.now departed_by.0 result }
     {
-        self.items[..self.len]
+        self.seen
+            .as_slice()
             .iter()
             .any(|d| departed_by == d.shard && d.is_readable)
     }

@@ -1,3 +1,4 @@
+pub mod Held
 pub mod Tests
 pub mod Keep
 pub mod Order

@@ -57,14 +57,14 @@ module _ (l : Ledger) (h : Held l) (t : ℕ) (lent : List ℕ) (f : plain.Entry 
   of_owed s d items after n r e b q w =
       rw (e.got d, sym q) (alone (take n items) lent after r (contents l) m z (first items lent after n r b w))
 
-pub set_room : (s : Set) → s.len ≤ length s.items
-set_room s = omega (arith, s.room, s.size)
+pub set_room : (s : Set) → s.shards.len ≤ length s.shards.items
+set_room s = omega (arith, s.shards.room, s.shards.size)
 
-pub of_departures : (l : Ledger) (s : Set) (lent after : List ℕ) (r : Result ℕ Refusal) → Holds (unstamped_on (on_file l.departures)) s → Lists (front s) s.len lent after r →
+pub of_departures : (l : Ledger) (s : Set) (lent after : List ℕ) (r : Result ℕ Refusal) → Holds (unstamped_on (on_file l.departures)) s → Lists (front s) s.shards.len lent after r →
     Reads (read (list_unstamped (length lent)) (contents l)) lent after r
 unfolding unstamped_departures contents
 of_departures l s lent after r h w =
-    rw (sym h.holds) (alone (front s) lent after r (contents l) 0 refl (first s.items lent after s.len r (set_room s) w))
+    rw (sym h.holds) (alone (front s) lent after r (contents l) 0 refl (first s.shards.items lent after s.shards.len r (set_room s) w))
 
 -- counterparts: a depth over 32 is refused before anything is looked up
 module _ (l : Ledger) (h : Held l) (t d : ℕ) (lent : List ℕ) where
@@ -80,7 +80,7 @@ module _ (l : Ledger) (h : Held l) (t d : ℕ) (lent : List ℕ) where
 
   pub of_counterparts : d ≤ 32 → (k : ℕ) (x : Entry) (s : Set) (after : List ℕ) (r : Result ℕ Refusal) → Owed l t k →
       Holds (counterparts_at l.local.0 (on_file l.departures) d (plain_entry (get_or l.entries k x))) s →
-      Lists (front s) s.len lent after r → Reads (read (list_counterparts t d (length lent)) (contents l)) lent after r
+      Lists (front s) s.shards.len lent after r → Reads (read (list_counterparts t d (length lent)) (contents l)) lent after r
   unfolding counterparts contents
   of_counterparts b k x s after r e q w =
-      of_owed l h t lent (counterparts_of (contents l) d) (depth_refusal d) (shallow b) k x s.items after s.len r e (set_room s) q.holds w
+      of_owed l h t lent (counterparts_of (contents l) d) (depth_refusal d) (shallow b) k x s.shards.items after s.shards.len r e (set_room s) q.holds w

@@ -5,9 +5,9 @@ use mathlib.Core.Path.{◌≡◌, refl, sym, ap, ◌∙◌}
 use mathlib.Core.Bool.{Bool, true, false, not}
 use mathlib.Core.List.{List, [], ◌∷◌, ◌++◌, append-nil, map}
 use native.Mathlib.Omega.{arith}
-use lib.ListN.{length, take, get_or, get_or-map, set, length-set, length-append}
+use lib.ListN.{length, take, get_or, get_or-map, length-append}
 use lib.Seq.{take_all}
-use Rattle.std.proofs.lemmas.List.{take_more, take_more_set, map-append}
+use Rattle.std.proofs.lemmas.List.{take_more, map-append}
 use Rattle.lists.specs.Lists.{Ascending, self, keep_by, cons_if}
 use Rattle.lists.proofs.Distinct.{keep_by-more, keep_by_test}
 use Rattle.lists.proofs.Order.{ascending-map}
@@ -22,7 +22,7 @@ use Rattle.store.specs.Departures.{plain_departure, stamp_of, on_file}
 use Rattle.store.proofs.Filed.{file-length}
 use Rattle.store.proofs.Kept.{kept_rises}
 use Rattle.shard_lists.specs.declared.set.Set.{Set}
-use Rattle.shard_lists.specs.Sets.{Holds, shards_of}
+use Rattle.shard_lists.specs.Sets.{front, Holds, shards_of}
 use Rattle.shard_lists.proofs.Gather.{front_length}
 
 -- Says is what is said of a departure that is asked about; what was said of the first i is flags, and the shards of those whose flag is up stand
@@ -31,23 +31,21 @@ module _ (Says : Departure → Bool → Type 0) (x : Departures) where
   abbrev pub Is : (plain.Departure → Bool) → Type 0
   Is p = (d : Departure) (b : Bool) → Says d b → b ≡ p (plain_departure d)
 
-  pub record Picked (i : ℕ) (items : List ℕ) (n : ℕ) : Type 0 where
+  pub record Picked (i : ℕ) (s : Set) : Type 0 where
     pub flags : List Bool
     pub long : length flags ≡ i
-    pub few : n ≤ i
-    pub size : length items ≡ 40
-    pub front : take n items ≡ map shard_of (keep_by flags (on_file x))
+    pub few : s.shards.len ≤ i
+    pub picks : front s ≡ map shard_of (keep_by flags (on_file x))
     pub by : (p : plain.Departure → Bool) → Is p → flags ≡ map p (take i (on_file x))
 
-  pub none-picked : (s : Set) → Holds [] s → Picked 0 s.items s.len
-  none-picked s h =
-      record { flags = []; long = refl; few = omega (arith, front_length s, ap length h.holds); size = s.size; front = h.holds; by = λ p q. refl }
+  pub none-picked : (s : Set) → Holds [] s → Picked 0 s
+  none-picked s h = record { flags = []; long = refl; few = omega (arith, front_length s, ap length h.holds); picks = h.holds; by = λ p q. refl }
 
   -- the one at a place
   abbrev at : Departure → ℕ → Departure
   at d i = get_or (take x.len x.items) i d
 
-  module _ (d : Departure) (i n : ℕ) (items : List ℕ) (b : Bool) (k : i < x.len) (s : Says (at d i) b) (q : Picked i items n) where
+  module _ (d : Departure) (i : ℕ) (s : Set) (b : Bool) (k : i < x.len) (a : Says (at d i) b) (q : Picked i s) where
     abbrev flags : List Bool
     flags = q.flags ++ b ∷ []
 
@@ -63,7 +61,7 @@ module _ (Says : Departure → Bool → Type 0) (x : Departures) where
     said : (p : plain.Departure → Bool) → Is p → flags ≡ map p (take (i + 1) (on_file x))
     said p h =
         ap (λ l. l ++ b ∷ []) (q.by p h)
-        ∙ ap (λ c. map p (take i (on_file x)) ++ c ∷ []) (h (at d i) b s ∙ ap p (sym one-is))
+        ∙ ap (λ c. map p (take i (on_file x)) ++ c ∷ []) (h (at d i) b a ∙ ap p (sym one-is))
         ∙ sym (map-append p (take i (on_file x)) (get_or (on_file x) i (plain_departure d) ∷ []))
         ∙ ap (map p) (sym (take_more (on_file x) i (plain_departure d) within))
 
@@ -76,40 +74,46 @@ module _ (Says : Departure → Bool → Type 0) (x : Departures) where
         ∙ ap (λ j. keep_by q.flags (on_file x) ++ cons_if b (get_or (on_file x) j (plain_departure d)) []) q.long
         ∙ ap (λ e. keep_by q.flags (on_file x) ++ cons_if b e []) one-is
 
-    pub passed-by : b ≡ false → Picked (i + 1) items n
+    pub passed-by : b ≡ false → Picked (i + 1) s
     passed-by t =
         record {
           flags = flags;
           long = long;
           few = omega (arith, q.few);
-          size = q.size;
-          front = q.front ∙ ap (map shard_of) (sym (append-nil (keep_by q.flags (on_file x)))) ∙ ap (λ c. map shard_of (keep_by q.flags (on_file x) ++ cons_if c (plain_departure (at d i)) [])) (sym t) ∙ ap (map shard_of) (sym kept);
+          picks = q.picks ∙ ap (map shard_of) (sym (append-nil (keep_by q.flags (on_file x)))) ∙ ap (λ c. map shard_of (keep_by q.flags (on_file x) ++ cons_if c (plain_departure (at d i)) [])) (sym t) ∙ ap (map shard_of) (sym kept);
           by = said;
         }
 
-    pub picked : b ≡ true → Picked (i + 1) (set items n (at d i).shard.0) (n + 1)
-    picked t =
+    -- with the shard of one that passes put behind
+    grows : b ≡ true → front s ++ (at d i).shard.0 ∷ [] ≡ map shard_of (keep_by flags (on_file x))
+    grows t =
+        ap (λ l. l ++ (at d i).shard.0 ∷ []) q.picks
+        ∙ sym (map-append shard_of (keep_by q.flags (on_file x)) (plain_departure (at d i) ∷ []))
+        ∙ ap (λ c. map shard_of (keep_by q.flags (on_file x) ++ cons_if c (plain_departure (at d i)) [])) (sym t) ∙ ap (map shard_of) (sym kept)
+
+    pub may-push : b ≡ true → (s.shards.len < 40) × Ascending self (front s ++ (at d i).shard.0 ∷ [])
+    may-push t = (
+      omega (arith, q.few, x.room),
+      rw (grows t) (ascending-map shard_of self shard_of (λ d. refl) (keep_by flags (on_file x)) (kept_rises shard_of flags (on_file x) x.rising)),
+    )
+
+    pub picked : b ≡ true → (r : Set) → Holds (front s ++ (at d i).shard.0 ∷ []) r → Picked (i + 1) r
+    picked t r h =
         record {
           flags = flags;
           long = long;
-          few = omega (arith, q.few);
-          size = length-set items n (at d i).shard.0 ∙ q.size;
-          front =
-              take_more_set items n (at d i).shard.0 (omega (arith, q.few, q.size, x.room))
-              ∙ ap (λ l. l ++ (at d i).shard.0 ∷ []) q.front
-              ∙ sym (map-append shard_of (keep_by q.flags (on_file x)) (plain_departure (at d i) ∷ []))
-              ∙ ap (λ c. map shard_of (keep_by q.flags (on_file x) ++ cons_if c (plain_departure (at d i)) [])) (sym t) ∙ ap (map shard_of) (sym kept);
+          few = omega (arith, q.few, front_length r, front_length s, ap length h.holds, length-append (front s) ((at d i).shard.0 ∷ []));
+          picks = h.holds ∙ grows t;
           by = said;
         }
 
-  module _ (i n : ℕ) (items : List ℕ) (k : x.len ≤ i) (q : Picked i items n) where
-    pub all-picked : (p : plain.Departure → Bool) → Is p → take n items ≡ shards_of p (on_file x)
-    all-picked p h =
-        q.front ∙ ap (λ fs. map shard_of (keep_by fs (on_file x))) (q.by p h ∙ ap (map p) (take_all i (on_file x) (omega (arith, file-length x))))
-        ∙ ap (map shard_of) (keep_by_test p (on_file x))
-
-    pub picked-rise : Ascending self (take n items)
-    picked-rise = rw q.front (ascending-map shard_of self shard_of (λ d. refl) (keep_by q.flags (on_file x)) (kept_rises shard_of q.flags (on_file x) x.rising))
+  pub all-picked : (i : ℕ) (s : Set) → x.len ≤ i → Picked i s → (p : plain.Departure → Bool) → Is p → Holds (shards_of p (on_file x)) s
+  all-picked i s k q p h =
+      record {
+        holds =
+            q.picks ∙ ap (λ fs. map shard_of (keep_by fs (on_file x))) (q.by p h ∙ ap (map p) (take_all i (on_file x) (omega (arith, file-length x))))
+            ∙ ap (map shard_of) (keep_by_test p (on_file x));
+      }
 
 -- a departure without a stamp, as the rules have it
 pub lacking : (s : Option Time) (b : Bool) → is_some s ≡ not b → b ≡ is_unstamped (stamp_of s)

@@ -1,6 +1,7 @@
 -- What a set of numbers holds, and what shards are gathered.
-use Rattle.std.specs.Prelude.{ℕ, ◌≤◌, ◌≡◌, Bool, ◌&&◌, List, ◌∷◌, map, ltb, length, take}
+use Rattle.std.specs.Prelude.{ℕ, ◌≡◌, Bool, ◌&&◌, List, ◌∷◌, map, ltb}
 use Rattle.lists.specs.Lists.{keep, any, concat_map, set_of}
+use Rattle.lists.specs.Front.{held}
 use Rattle.rules.specs.Numbers.{owns, shard_for_route}
 use Rattle.rules.specs.Plain as plain
 use Rattle.rules.specs.Plain.{shard_of, remote}
@@ -11,7 +12,7 @@ use Rattle.store.specs.declared.departures.Departures.{Departures}
 use Rattle.store.specs.Departures.{on_file, plain_departure}
 
 abbrev pub front : Set → List ℕ
-front s = take s.len s.items
+front s = held s.shards
 
 -- a set that holds just these
 pub record Holds (l : List ℕ) (s : Set) : Type 0 where
@@ -24,12 +25,6 @@ shards_of p ds = map shard_of (keep p ds)
 
 abbrev pub Gathers : (Departure → Bool → Type 0) → Departures → Set → Type 0
 Gathers Says x s = (p : plain.Departure → Bool) → ((d : Departure) (b : Bool) → Says d b → b ≡ p (plain_departure d)) → Holds (shards_of p (on_file x)) s
-
--- the first n of an array of eight are just these
-pub record Eight (l a : List ℕ) (n : ℕ) : Type 0 where
-  pub few : n ≤ 8
-  pub size : length a ≡ 8
-  pub holds : take n a ≡ l
 
 -- what is gathered: departed shards, over a route or over one of some routes of an entry with an anchor; those without a stamp; an entry's
 -- counterparts

@@ -7,6 +7,7 @@ pub mod set;
 ghost use Rattle.std.specs.Fn.{FnReturnsAt};
 ghost use Rattle.std.specs.Prelude.{◌≡◌, true, map, ◌≤◌, leb, length};
 ghost use Rattle.lists.specs.Lists.{keep, any, include_all, self};
+ghost use Rattle.lists.specs.Front.{held};
 ghost use Rattle.rules.specs.Numbers.{owns, shard_for_route};
 ghost use Rattle.rules.specs.Plain.{is_remote};
 ghost use Rattle.rules.specs.Readings as rules;
@@ -16,11 +17,12 @@ ghost use Rattle.store.specs.Departures as departures;
 ghost use Rattle.store.specs.Departures.{plain_departure};
 ghost use Rattle.ledger.specs.Contents.{contents, Held};
 ghost use Rattle.readings.specs.Reads.{Reads};
-ghost use Rattle.shard_lists.specs.Sets.{front, Holds, Gathers, Eight, is_over_some, counterparts_at};
+ghost use Rattle.shard_lists.specs.Sets.{front, Holds, Gathers, is_over_some, counterparts_at};
 ghost use Rattle.types.specs.Transactions.{number_of};
 
 use entry::{Entry, is_issue};
 use ledger::Ledger;
+use lists::front::Front;
 use lists::slices::part;
 use readings::reply::list;
 use set::Set;
@@ -32,14 +34,13 @@ use types::{RecordKey, Shard, Time, Transaction, shard_for_route};
 fn shards_of<F: Fn(&Departure) -> bool>(on_file: Departures, passes: F) -> Set
     requires { (d : _) → F.pre passes d }
     ensures gathered { Gathers (FnReturnsAt F.Fn passes) on_file result }
-    ensures few { result.len ≤ 32 }
+    ensures few { result.shards.len ≤ 32 }
 {
     let mut shards = Set::new();
     let len = on_file.len;
     for d in &on_file.items[..len] {
         if passes(d) {
-            shards.items[shards.len] = d.shard.0;
-            shards.len += 1;
+            shards.push(d.shard);
         }
     }
     shards
@@ -51,7 +52,7 @@ pub fn unstamped_departures(ledger: Ledger, lent: &mut [u64]) -> Result<u64, Ref
     ensures { Reads (read (rules.list_unstamped (length lent.old)) (contents ledger)) lent.old lent.new result }
 {
     let shards = shards_of(ledger.departures, |d| d.until.is_none());
-    list(&shards.items[..shards.len], shards.len, lent)
+    shards.list(lent)
 }
 
 pub fn reach(ledger: Ledger, tx: Transaction, lent: &mut [u64]) -> Result<u64, Refusal>
@@ -95,22 +96,21 @@ pub fn claimants(
         return Ok(0);
     };
     let shards = destinations(ledger.entries[slot], ledger.local, r);
-    list(&shards.items[..shards.len], shards.len, lent)
+    shards.list(lent)
 }
 
-// The routes that local does not own, put into the front of a lent array; how many there are.
-fn remote(routes: &[u64], local: Shard, far: &mut [u64; 8]) -> usize
-    requires { (length routes.now ≤ 8) × (length far.old ≡ 8) }
-    ensures { Eight (keep (is_remote local.0) routes.now) far.new result }
+// The routes that local does not own.
+fn remote(routes: &[u64], local: Shard) -> Front<u64, 8>
+    requires { length routes.now ≤ 8 }
+    ensures { held result ≡ keep (is_remote local.0) routes.now }
 {
-    let mut m = 0;
+    let mut far = Front::new(0);
     for route in routes {
         if !local.owns(*route) {
-            far[m] = *route;
-            m += 1;
+            far.push(*route);
         }
     }
-    m
+    far
 }
 
 // Whether the shard owns one of the routes.
@@ -128,11 +128,11 @@ fn is_over(d: Departure, anchor: Time, far: &[u64]) -> bool
 }
 
 // The trie's shards of the routes put into a set.
-fn put_trie(shards: &mut Set, far: &[u64], d: u32)
-    requires { (shards.old.len ≤ 32) × (length far.now ≤ 8) × (leb d 32 ≡ true) }
-    ensures { Holds (include_all self (map (shard_for_route d) far.now) (front shards.old)) shards.new }
+fn put_trie(shards: &mut Set, far: &Front<u64, 8>, d: u32)
+    requires { (shards.old.shards.len ≤ 32) × (leb d 32 ≡ true) }
+    ensures { Holds (include_all self (map (shard_for_route d) (held far.now)) (front shards.old)) shards.new }
 {
-    for route in far {
+    for route in far.as_slice() {
         shards.include(shard_for_route(d, *route));
     }
 }
@@ -143,10 +143,9 @@ fn beyond(e: Entry, on_file: Departures, local: Shard, d: u32) -> Set
     requires { leb d 32 ≡ true }
     ensures { Holds (counterparts_at local.0 (departures.on_file on_file) d (plain_entry e)) result }
 {
-    let mut far = [0; 8];
-    let n = remote(&e.routes[..e.routes_len as usize], local, &mut far);
-    let mut shards = shards_of(on_file, |d| is_over(*d, e.anchor, &far[..n]));
-    put_trie(&mut shards, &far[..n], d);
+    let far = remote(&e.routes[..e.routes_len as usize], local);
+    let mut shards = shards_of(on_file, |d| is_over(*d, e.anchor, far.as_slice()));
+    put_trie(&mut shards, &far, d);
     shards
 }
 
@@ -172,5 +171,5 @@ pub fn counterparts(
         ledger.local,
         depth as u32,
     );
-    list(&shards.items[..shards.len], shards.len, lent)
+    shards.list(lent)
 }

@@ -2,13 +2,11 @@
 -- Assumes nothing.
 use Prim.Native.Nat.{ℕ, ◌+◌, ◌≤◌, ◌<◌}
 use mathlib.Core.Path.{◌≡◌, refl, sym, ap, ◌∙◌}
-use mathlib.Core.Bool.{Bool, true, false, cond, not, ◌&&◌, ◌||◌}
-use mathlib.Core.List.{List, [], ◌∷◌, ◌++◌, append-nil}
+use mathlib.Core.Bool.{Bool, true, false, not, ◌&&◌, ◌||◌}
+use mathlib.Core.List.{List, [], ◌∷◌}
 use native.Mathlib.Omega.{arith}
-use native.Mathlib.Numerals.{add-one}
 use lib.Dec.{eqb}
-use lib.ListN.{length, take, drop, get_or, set}
-use lib.Seq.{take-suc-set, append_snoc}
+use lib.ListN.{length, take, drop, get_or}
 use Rattle.lists.specs.Lists.{keep, has, self}
 use Rattle.lists.proofs.Tests.{eqb_swap}
 use Rattle.lists.proofs.Keep.{keep_same, keep_and, keep_all}
@@ -24,25 +22,19 @@ none-gone (b ∷ bs) [] ps e = refl
 none-gone (true ∷ bs) (t ∷ ts) ps e = none-gone bs ts ps e
 none-gone (false ∷ bs) (t ∷ ts) ps e = absurd (omega (arith, ap length e))
 
--- one turn and the end of putting those at the front whose flag is down; those from i on are still to come
+-- those from i on whose flag is down, which are still to come
 module _ (stay : List Bool) (keys : List ℕ) (i n : ℕ) (h₂ : n ≤ length stay) (h₃ : n ≤ length keys) where
   abbrev coming : ℕ → List ℕ
   coming j = dropped_by (drop j (take n stay)) (drop j (take n keys))
 
-  pub front_stays : (all : List ℕ) (xs : List ℕ) → i < n → get_or stay i false ≡ true → xs ++ coming i ≡ all → xs ++ coming (i + 1) ≡ all
-  front_stays all xs h₁ f e = ap (λ m. xs ++ m) (sym (coming_next h₁ ∙ rw f)) ∙ e
-    where
-      coming_next : i < n → coming i ≡ cond (get_or stay i false) (coming (i + 1)) (get_or keys i 0 ∷ coming (i + 1))
-      coming_next h = rw (rest-cons false stay i n h h₂, rest-cons 0 keys i n h h₃)
+  pub coming_stays : i < n → get_or stay i false ≡ true → coming i ≡ coming (i + 1)
+  coming_stays h f = rw (rest-cons false stay i n h h₂, rest-cons 0 keys i n h h₃, f)
 
-  pub front_leaves : (all out : List ℕ) (w : ℕ) → w < length out → i < n → get_or stay i false ≡ false → take w out ++ coming i ≡ all →
-      take (w + 1) (set out w (get_or keys i 0)) ++ coming (i + 1) ≡ all
-  front_leaves all out w h h₁ f e =
-      let next : coming i ≡ get_or keys i 0 ∷ coming (i + 1) = rw (rest-cons false stay i n h₁ h₂, rest-cons 0 keys i n h₁ h₃, f) in
-      rw (add-one w, take-suc-set out w (get_or keys i 0) h) (append_snoc (take w out) (get_or keys i 0) (coming (i + 1)) ∙ ap (λ m. take w out ++ m) (sym next) ∙ e)
+  pub coming_leaves : i < n → get_or stay i false ≡ false → coming i ≡ get_or keys i 0 ∷ coming (i + 1)
+  coming_leaves h f = rw (rest-cons false stay i n h h₂, rest-cons 0 keys i n h h₃, f)
 
-  pub front-end : (all xs : List ℕ) → n ≤ i → xs ++ coming i ≡ all → xs ≡ all
-  front-end all xs h₁ e = sym (append-nil xs) ∙ ap (λ m. xs ++ m) (sym (rw (rest_end stay i n h₁ h₂))) ∙ e
+  pub coming_end : n ≤ i → coming i ≡ []
+  coming_end h = rw (rest_end stay i n h h₂)
 
 -- a transaction is gone if it is among those
 pub gone-among : (bs : List Bool) (ts : List ℕ) (t : ℕ) → is_dropped bs ts t ≡ has self t (dropped_by bs ts)

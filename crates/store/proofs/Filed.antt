@@ -1,15 +1,13 @@
 -- The whole array of departures read as the rules read it: those on file are its front.
 -- Assumes nothing.
-use Prim.Native.Nat.{ℕ}
 use mathlib.Core.Path.{◌≡◌, ◌∙◌, sym, ap}
 use native.Mathlib.Omega.{arith}
 use mathlib.Core.List.{List, map}
-use lib.ListN.{length, take, get_or, length-map, get_or-map}
+use lib.ListN.{length, take, length-map}
 use lib.Seq.{length-take-le}
 use Rattle.lists.proofs.Pairs.{read_take}
 use Rattle.rules.specs.Plain as plain
 use Rattle.store.specs.Departures.{on_file, plain_departure}
-use Rattle.store.specs.declared.departures.Departure.{Departure}
 use Rattle.store.specs.declared.departures.Departures.{Departures}
 
 abbrev pub all : Departures → List plain.Departure
@@ -21,9 +19,6 @@ module _ (x : Departures) where
 
   pub all-length : length (all x) ≡ 32
   all-length = length-map x.items plain_departure ∙ x.item_length
-
-  pub all-at : (i : ℕ) (d : Departure) → get_or (all x) i (plain_departure d) ≡ plain_departure (get_or x.items i d)
-  all-at i d = get_or-map plain_departure x.items i d
 
   pub file-length : length (on_file x) ≡ x.len
   file-length = ap length (sym all-front) ∙ length-take-le x.len (all x) (omega (arith, all-length, x.room))

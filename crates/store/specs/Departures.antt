@@ -14,11 +14,6 @@ is_of shard d = eqb d.shard shard
 abbrev pub is_under : ℕ → plain.Departure → Bool
 is_under shard d = ltb d.shard shard
 
--- which the type says of all departures, and that they rise by shard
-pub record Sound (x : Departures) : Type 0 where
-  pub room : x.len ≤ 32
-  pub item_length : length x.items ≡ 32
-
 -- with a departure of the shard put in, they still fit
 abbrev pub room_for : Departures → ℕ → ℕ → Type 0
 room_for x shard cut = length (departed shard cut (on_file x)) ≤ 32

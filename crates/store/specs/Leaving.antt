@@ -1,9 +1,8 @@
 -- Several transactions let go at once: flags by place in the roster say who stays.
-use Rattle.std.specs.Prelude.{ℕ, ◌≤◌, ◌≡◌, Bool, false, cond, not, ◌&&◌, ◌||◌, List, [], ◌∷◌, eqb, length, take}
+use Rattle.std.specs.Prelude.{ℕ, Bool, false, cond, not, ◌&&◌, ◌||◌, List, [], ◌∷◌, eqb}
 use Rattle.lists.specs.Lists.{keep}
 use Rattle.rules.specs.Index.{Pair}
 use Rattle.store.specs.Issuers.{is_not}
-use Rattle.store.specs.declared.leaving.Dropped.{Dropped}
 
 -- the pairs without those of each transaction whose flag is down
 abbrev pub unnamed_by : List Bool → List ℕ → List Pair → List Pair
@@ -22,9 +21,3 @@ abbrev pub dropped_by : List Bool → List ℕ → List ℕ
 dropped_by [] ts = []
 dropped_by (b ∷ bs) [] = []
 dropped_by (b ∷ bs) (t ∷ ts) = cond b (dropped_by bs ts) (t ∷ dropped_by bs ts)
-
--- they stand at the front
-pub record Fronts (ts : List ℕ) (g : Dropped) : Type 0 where
-  pub room : g.len ≤ 48
-  pub size : length g.transactions ≡ 48
-  pub front : take g.len g.transactions ≡ ts

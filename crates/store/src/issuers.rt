@@ -1,4 +1,5 @@
 // The issuer index: which owed transactions issued the record at a key, as pairs by record and then transaction, none twice.
+ghost use Rattle.std.specs.Fn.{FnReturns};
 ghost use Rattle.std.specs.Prelude.{◌≡◌, ◌≤◌, ◌<◌, ◌^◌, length, take};
 ghost use Rattle.lists.specs.Lists.{Every, Ascending, zip_by};
 ghost use Rattle.rules.specs.Index.{pair_key};
@@ -37,10 +38,10 @@ fn is_pair(a: RecordKey, b: Transaction, r: RecordKey, t: Transaction) -> bool
 
 impl Issuers {
     ghost use Rattle.std.specs.Prelude.{[]};
-    ghost use Rattle.lists.specs.Lists.{keep, keep_by, include};
+    ghost use Rattle.lists.specs.Lists.{keep, include};
     ghost use Rattle.lists.specs.Arrays.{rank};
     ghost use Rattle.rules.specs.Index.{names};
-    ghost use Rattle.store.specs.Issuers.{Holds, pairs_in, is_not, is_before, room_for};
+    ghost use Rattle.store.specs.Issuers.{Holds, Retains, pairs_in, is_not, is_before, room_for};
 
     pub fn new() -> Issuers
         ensures { Holds [] result }
@@ -107,10 +108,16 @@ impl Issuers {
         self.len += 1;
     }
 
-    // Those whose flag is up, in their order.
-    pub fn retain(self, stay: [bool; 384]) -> Issuers
-        ensures { Holds (keep_by (take self.len stay) (pairs_in self)) result }
+    // Those whose transaction passes, in their order.
+    pub fn retain<F: Fn(Transaction) -> bool>(self, stays: F) -> Issuers
+        requires { (t : _) → F.pre stays t }
+        ensures { Retains (λ t. FnReturns F.Fn stays (t, tt)) self result }
     {
+        let mut stay = [false; 384];
+        for i in 0..self.len {
+            let tx = Transaction(self.transactions[i]);
+            stay[i] = stays(tx);
+        }
         let mut x = self;
         fronts::retain(&mut x.records, &stay[..self.len]);
         x.len = fronts::retain(&mut x.transactions, &stay[..self.len]);
@@ -121,11 +128,6 @@ impl Issuers {
     pub fn without(self, t: Transaction) -> Issuers
         ensures { Holds (keep (is_not (number_of t)) (pairs_in self)) result }
     {
-        let mut stay = [false; 384];
-        for i in 0..self.len {
-            let other = Transaction(self.transactions[i]);
-            stay[i] = other != t;
-        }
-        self.retain(stay)
+        self.retain(|other| other != t)
     }
 }

@@ -8,7 +8,8 @@ ghost use Rattle.store.specs.Props.{Below-prop, Distinct-prop};
 use lists::{fronts, sorted};
 use types::Transaction;
 
-// Sorted arrays of fixed memory with their length, since the ledger has no heap.
+// Sorted arrays of fixed memory with their length, since the ledger has no heap. Two arrays: keys are searched as numbers, and behind
+// the slots in use stand those without a key.
 #[derive(Clone, Copy)]
 pub struct Roster {
     pub keys: [u64; 48],
@@ -97,6 +98,7 @@ impl Roster {
     {
         let mut r = self;
         let mut w = 0;
+        // A loop of its own: a slot that is let go is swapped behind those in use, which fronts::retain would lose.
         for i in 0..self.len {
             if stay[i] {
                 r.keys[w] = r.keys[i];

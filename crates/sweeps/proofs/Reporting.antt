@@ -111,7 +111,7 @@ module _ (l : Ledger) (h : Held l) (now : ℕ) where
       unfolding contents
       judgement = said (contents l) (record { local = refl; validity = refl; leg_span = refl; view = s })
 
-      pub pass_stands : x ≡ Stands → (needed : List Bool) (some_unneeded : Bool) → length needed ≡ 32 → some_unneeded ≡ any not (take v.len needed) →
+      pub pass_stands : x ≡ Stands → (needed : List Bool) (some_unneeded : Bool) → length needed ≡ 32 → some_unneeded ≡ any not (take v.seen.len needed) →
           Needed l.local.0 (plain_entry here) v r.needed needed →
           JudgingIn l now (record { stay = set r.stay i true; needed = needed; some_unneeded = some_unneeded; words = r.words; reports = r.reports; fallen = r.fallen }) (i + 1)
       unfolding contents

@@ -36,4 +36,4 @@ refusal_by now reports room = not (is_time now) gives 3 then ltb room (report_si
 -- the flags of the departures that a view shows, up also for those that the entry needs
 abbrev pub Needed : ℕ → Entry → View → (before after : List Bool) → Type 0
 Needed local e v before after =
-    (ds : List Departure) (now : ℕ) → Shows ds now v → take v.len after ≡ zip_by (or_holds local e) (take v.len before) ds
+    (ds : List Departure) (now : ℕ) → Shows ds now v → take v.seen.len after ≡ zip_by (or_holds local e) (take v.seen.len before) ds

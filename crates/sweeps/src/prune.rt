@@ -36,8 +36,8 @@ fn with_needs(mut flags: [bool; 32], e: &Entry, local: Shard, view: &View) -> [b
     ensures { Needed local.0 (plain_entry e.now) view.now flags result }
 {
     // By place: the flags go beside the view's items.
-    for j in 0..view.len {
-        flags[j] = flags[j] || needs(e, local, view.items[j]);
+    for j in 0..view.seen.len {
+        flags[j] = flags[j] || needs(e, local, view.seen.items[j]);
     }
     flags
 }
@@ -80,7 +80,7 @@ impl Pruning {
                     p.stay[i] = true;
                     if p.some_unneeded {
                         p.needed = with_needs(p.needed, e, local, &view);
-                        p.some_unneeded = some_down(&p.needed[..view.len]);
+                        p.some_unneeded = some_down(&p.needed[..view.seen.len]);
                     }
                 }
                 Verdict::Falls => p.fallen += 1,

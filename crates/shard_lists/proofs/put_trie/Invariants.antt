@@ -8,4 +8,4 @@ use Rattle.shard_lists.proofs.put_trie.Given as goal
 
 abbrev pub invariant-loop-route : goal.invariant-loop-route
 invariant-loop-route l =
-    Sofar (include_all self (map (shard_for_route l.d) l.far) (front l.initial.shards)) (map (shard_for_route l.d) (drop l.route-index l.far)) (l.initial.shards.len + l.route-index) l.shards
+    Sofar (include_all self (map (shard_for_route l.d) l.route-items) (front l.initial.shards)) (map (shard_for_route l.d) (drop l.route-index l.route-items)) (l.initial.shards.shards.len + l.route-index) l.shards

@@ -4,4 +4,4 @@ use Rattle.shard_lists.proofs.OnFile.{Picked}
 use Rattle.shard_lists.proofs.shards_of.Given as goal
 
 abbrev pub invariant-loop-d : goal.invariant-loop-d
-invariant-loop-d g l = Picked (FnReturnsAt g.F.Fn l.passes) l.fn.on_file l.d-index l.shards.0 l.shards.1.0
+invariant-loop-d g l = Picked (FnReturnsAt g.F.Fn l.passes) l.fn.on_file l.d-index l.shards

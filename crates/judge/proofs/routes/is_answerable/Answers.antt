@@ -15,7 +15,7 @@ loop-j-preserved-then-counts_over c =
     let v = a.view.now in
     let route = get_or a.e.now.routes c.routes.i 0 in
     let test = rw c.led-led.ensures at (sym c.counts_over.ensures ∙ c.if-counts_over.true) in
-    (omega arith, λ ds now s. turn_won ds now v s a.e.now.anchor.0 route l.j l.best.0 l.lowest.0 l.answers (omega arith) (omega arith) (l.invariant.1 ds now s) _ (ap (λ y. get_or v.items (l.j - 1) y) c.index-view-j.is) test)
+    (omega arith, λ ds now s. turn_won ds now v s a.e.now.anchor.0 route l.j l.best.0 l.lowest.0 l.answers (omega arith) (omega arith) (l.invariant.1 ds now s) _ (ap (λ y. get_or v.seen.items (l.j - 1) y) c.index-view-j.is) test)
 
 pub loop-j-preserved : goal.loop-j-preserved
 loop-j-preserved c =
@@ -24,7 +24,7 @@ loop-j-preserved c =
     let v = a.view.now in
     let route = get_or a.e.now.routes c.routes.i 0 in
     let test = rw c.led-led.ensures at (sym c.counts_over.ensures ∙ c.if-counts_over.false) in
-    (omega arith, λ ds now s. turn_lost ds now v s a.e.now.anchor.0 route l.j l.best.0 l.lowest.0 l.answers (omega arith) (omega arith) (l.invariant.1 ds now s) _ (ap (λ y. get_or v.items (l.j - 1) y) c.index-view-j.is) test)
+    (omega arith, λ ds now s. turn_lost ds now v s a.e.now.anchor.0 route l.j l.best.0 l.lowest.0 l.answers (omega arith) (omega arith) (l.invariant.1 ds now s) _ (ap (λ y. get_or v.seen.items (l.j - 1) y) c.index-view-j.is) test)
 
 pub routes-preserved : goal.routes-preserved
 routes-preserved c =

@@ -10,7 +10,7 @@ use Rattle.judge.proofs.routes.is_answerable.Given as goal
 
 abbrev pub invariant-loop-j : goal.invariant-loop-j
 invariant-loop-j l =
-    (l.j ≤ l.view.len)
+    (l.j ≤ l.view.seen.len)
     × ((ds : List Departure) (now : ℕ) → Shows ds now l.view → Best now (counting (keep (over_at l.anchor.0 l.route) (drop l.j ds))) l.best.0 l.lowest.0 l.answers)
 
 abbrev pub decreases-loop-j : goal.decreases-loop-j

@@ -1,33 +1,34 @@
 -- A turn passes one that stays by, or puts the next that leaves behind those at the front.
-use Rattle.std.proofs.Common.{◌≡◌, length, take, arith, rules}
+use Rattle.std.proofs.Common.{◌≡◌, ◌≤◌, ◌++◌, length, take, ap, arith, rules}
 use Rattle.store.specs.Roster.{keys_of}
 use Rattle.store.specs.Leaving.{dropped_by}
-use Rattle.store.proofs.Dropping.{front_stays, front_leaves, front-end}
+use Rattle.lists.proofs.Held.{left_out, put_behind, all_put}
+use Rattle.store.proofs.Dropping.{coming_stays, coming_leaves, coming_end}
 use Rattle.store.proofs.leaving.dropped_from.Goals as goal
 use Rattle.store.proofs.leaving.dropped_from.Goals.{then-not-stay-i, else-not-stay-i}
+
+pub loop-i-init : goal.loop-i-init
+loop-i-init c =
+    let all = dropped_by (take c.args.roster.len c.args.stay) (keys_of c.args.roster) in
+    (omega arith, ap (λ m. m ++ all) c.new-gone.ensures.list)
 
 pub loop-i-preserved : goal.loop-i-preserved
 loop-i-preserved c =
     let l = c.loop-i in
     let a = c.args in
-    let n = a.roster.len in
     let r = a.roster in
     let f : length a.stay ≡ 48 = search rules in
-    let all = dropped_by (take n a.stay) (keys_of a.roster) in
+    let one : r.len ≤ length a.stay = omega (arith, r.room) in
+    let two : r.len ≤ length r.keys = omega (arith, r.room, r.lengths.0) in
     elim c.if-not-stay-i.branch [
-      | then-not-stay-i w ↦ rw (w.transactions-is, w.len-is) (omega arith, search rules, front_leaves a.stay a.roster.keys l.i n (omega (arith, r.room)) (omega (arith, r.room, r.lengths.0)) all l.transactions l.len (omega (arith, r.room)) (omega arith) (search rules) l.invariant.2)
-      | else-not-stay-i w ↦ rw (w.transactions-is, w.len-is) (omega arith, search rules, front_stays a.stay a.roster.keys l.i n (omega (arith, r.room)) (omega (arith, r.room, r.lengths.0)) all (take l.len l.transactions) (omega arith) (search rules) l.invariant.2)
+      | then-not-stay-i w ↦ rw w.gone-is (omega arith, put_behind _ _ _ _ _ _ (coming_leaves a.stay r.keys l.i r.len one two (omega arith) w.if-not-stay-i.true) w.push.ensures.list l.invariant.1)
+      | else-not-stay-i w ↦ rw w.gone-is (omega arith, left_out _ _ _ _ (coming_stays a.stay r.keys l.i r.len one two (omega arith) w.if-not-stay-i.false) l.invariant.1)
     ]
 
 pub returns : goal.returns
 returns c =
     let l = c.loop-i in
     let a = c.args in
-    let n = a.roster.len in
     let r = a.roster in
     let f : length a.stay ≡ 48 = search rules in
-    record {
-      room = omega (arith, r.room);
-      size = l.invariant.1;
-      front = front-end a.stay a.roster.keys l.i n (omega (arith, r.room)) (omega (arith, r.room, r.lengths.0)) (dropped_by (take n a.stay) (keys_of a.roster)) (take l.len l.transactions) (omega arith) l.invariant.2;
-    }
+    all_put _ _ _ (coming_end a.stay r.keys l.i r.len (omega (arith, r.room)) (omega (arith, r.room, r.lengths.0)) (omega arith)) l.invariant.1

@@ -36,7 +36,7 @@ loop-j-preserved c =
     ] in (
       length-set l.flags l.j c.if-flags-j.flags ∙ l.invariant.0,
       λ ds now s.
-          mark_next a.local.0 (plain_entry a.e.now) ds a.view.now.len l.flags l.j (omega (arith, l.invariant.0, a.view.now.room)) s.count nobody c.if-flags-j.flags c.loop-j-test.true (joined ds now s)
+          mark_next a.local.0 (plain_entry a.e.now) ds a.view.now.seen.len l.flags l.j (omega (arith, l.invariant.0, a.view.now.seen.room)) s.count nobody c.if-flags-j.flags c.loop-j-test.true (joined ds now s)
           ∙ l.invariant.1 ds now s,
     )
 
@@ -44,4 +44,4 @@ pub returns : goal.returns
 returns c ds now s =
     let l = c.loop-j in
     let a = c.args in
-    sym (mark_end a.local.0 (plain_entry a.e.now) ds a.view.now.len l.flags l.j (omega (arith, l.invariant.0, a.view.now.room)) s.count c.loop-j-test.false l.auto.j-end) ∙ l.invariant.1 ds now s
+    sym (mark_end a.local.0 (plain_entry a.e.now) ds a.view.now.seen.len l.flags l.j (omega (arith, l.invariant.0, a.view.now.seen.room)) s.count c.loop-j-test.false l.auto.j-end) ∙ l.invariant.1 ds now s

@@ -11,4 +11,4 @@ use Prim.Native.Nat.{ℕ}
 
 abbrev pub invariant-loop-j : goal.invariant-loop-j
 invariant-loop-j l =
-    (length l.flags ≡ 32) × ((ds : List Departure) (now : ℕ) → Shows ds now l.view → marking l.local.0 (plain_entry l.e) ds l.view.len l.flags l.j ≡ zip_by (or_holds l.local.0 (plain_entry l.e)) (take l.view.len l.initial.flags) ds)
+    (length l.flags ≡ 32) × ((ds : List Departure) (now : ℕ) → Shows ds now l.view → marking l.local.0 (plain_entry l.e) ds l.view.seen.len l.flags l.j ≡ zip_by (or_holds l.local.0 (plain_entry l.e)) (take l.view.seen.len l.initial.flags) ds)

@@ -1,11 +1,13 @@
 -- Each departure gone through is seen at its place.
-use Rattle.std.proofs.Common.{ℕ, ◌≡◌, ◌<◌, length, get_or}
-use Rattle.store.specs.declared.departures.Departure.{Departure}
-use Rattle.store.specs.Departures.{plain_departure}
+use Rattle.std.proofs.Common.{ℕ, ◌≡◌, ◌<◌, get_or}
+use Rattle.lists.specs.Front.{held}
+use Rattle.rules.specs.Plain.{Departure}
+use Rattle.store.specs.Departures.{on_file}
 use Rattle.judge.specs.View.{Sees}
 use Rattle.judge.specs.declared.views.Seen.{Seen}
 use Rattle.judge.proofs.views.View.of.Given as goal
 
-abbrev pub invariant-loop-i : goal.invariant-loop-i
-invariant-loop-i l =
-    (length l.items ≡ 32) × ((k : ℕ) (d : Departure) (x : Seen) → k < l.i → Sees l.time.0 (plain_departure (get_or l.d.items k d)) (get_or l.items k x))
+abbrev pub invariant-loop-departure : goal.invariant-loop-departure
+invariant-loop-departure l =
+    (l.seen.len ≡ l.departure-index)
+    × ((k : ℕ) (x : Seen) → k < l.seen.len → (d : Departure) → Sees l.time.0 (get_or (on_file l.fn.d) k d) (get_or (held l.seen) k x))

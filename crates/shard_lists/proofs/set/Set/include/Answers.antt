@@ -9,10 +9,10 @@ use Rattle.shard_lists.proofs.set.Set.include.Goals as goal
 pub include-self-requires : goal.include-self-requires
 include-self-requires c =
     let s = c.args.self.now in
-    (omega (arith, s.room, s.size), s.rising, omega (arith, length-include self c.args.x.0 (front s), front_length s, s.size, c.requires))
+    (omega (arith, s.shards.room, s.shards.size), s.rising, omega (arith, length-include self c.args.x.0 (front s), front_length s, s.shards.size, c.requires))
 
 pub returns : goal.returns
 returns c = record { holds = c.include-self.ensures.front }
 
-pub invariant_of-self-clause-rising : goal.invariant_of-self-clause-rising
-invariant_of-self-clause-rising c = rw c.include-self.ensures.front (ascending-include self c.args.x.0 (front c.args.self.now) c.args.self.now.rising)
+pub invariant_of-self-3 : goal.invariant_of-self-3
+invariant_of-self-3 c = record { rising = rw c.include-self.ensures.front (ascending-include self c.args.x.0 (front c.args.self.now) c.args.self.now.rising) }

@@ -6,4 +6,4 @@ use Rattle.shard_lists.proofs.Gather.{Sofar}
 use Rattle.shard_lists.proofs.set.Set.include_all.Given as goal
 
 abbrev pub invariant-loop-x : goal.invariant-loop-x
-invariant-loop-x l = Sofar (include_all itself l.shards (front l.initial.self)) (drop l.x-index l.shards) (l.initial.self.len + l.x-index) l.self
+invariant-loop-x l = Sofar (include_all itself l.shards (front l.initial.self)) (drop l.x-index l.shards) (l.initial.self.shards.len + l.x-index) l.self

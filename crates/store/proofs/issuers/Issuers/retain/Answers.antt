@@ -1,12 +1,16 @@
--- Both arrays keep the same places, so that the pairs kept are those whose flag is up.
-use Rattle.std.proofs.Common.{ℕ, ◌≡◌, ◌<◌, ◌≤◌, ◌^◌, ◌∙◌, Bool, List, sym, ap, length, take, arith, rules}
-use Rattle.std.proofs.Math.Seq.{length-take-le}
-use Rattle.lists.specs.Lists.{keep_by, zip_by}
+-- Both arrays keep the same places, so that the pairs kept are those whose flag is up, and the flags are what the closure says.
+use Rattle.std.proofs.Common.{ℕ, ◌≡◌, ◌<◌, ◌≤◌, ◌^◌, ◌∙◌, Bool, List, refl, sym, ap, subst, length, take, map, arith, rules}
+use Rattle.std.proofs.Math.Seq.{length-take-le, take_all}
+use Rattle.std.proofs.lemmas.Fn.{says}
+use Rattle.lists.specs.Lists.{Every, Ascending, keep_by, zip_by}
 use Rattle.lists.specs.Arrays.{Kept}
-use Rattle.lists.proofs.Zip.{kept-length, kept-pairs}
+use Rattle.lists.proofs.Counting.{fill_one}
+use Rattle.lists.proofs.Distinct.{keep_by_test}
+use Rattle.lists.proofs.Zip.{pairs-at, kept-length, kept-pairs}
 use Rattle.rules.specs.Index.{pair_key}
 use Rattle.store.specs.declared.issuers.Issuers.{Issuers}
-use Rattle.store.specs.Issuers.{pair, pairs_in}
+use Rattle.store.specs.Issuers.{pair, pairs_in, of_transaction}
+use Rattle.store.proofs.Pairs.{pairs-length}
 use Rattle.store.proofs.Kept.{every_kept, kept_rises, flagged}
 use Rattle.store.proofs.issuers.Issuers.retain.Goals as goal
 
@@ -26,15 +30,37 @@ kept x stay us vs k n h o p =
     let records : take n us ≡ keep_by f rs = ap (λ i. take i us) e ∙ o' in
     ap (λ l. zip_by pair l (take n vs)) records ∙ ap (zip_by pair (keep_by f rs)) p' ∙ kept-pairs pair f rs ts same
 
+pub loop-i-preserved : goal.loop-i-preserved
+loop-i-preserved g c =
+    let l = c.loop-i in
+    let x = c.args.self in
+    let size : length (pairs_in x) ≡ x.len = pairs-length x in
+    let at = pairs-at pair x.records x.transactions x.len (omega (arith, x.room, x.lengths.0)) (omega (arith, x.room, x.lengths.1)) 0 0 (pair 0 0) l.i (omega arith) in (
+      search rules,
+      λ p is. fill_one (of_transaction p) l.stay (pairs_in x) l.i (pair 0 0) _ (omega (arith, x.room)) (omega arith)
+          (is _ _ (says g.F.Fn c.stays.ensures refl) ∙ sym (ap (of_transaction p) at)) (l.invariant.1 p is),
+    )
+
 pub returns : goal.returns
-returns c = record { pairs = kept c.args.self c.args.stay _ _ _ _ (search rules) c.retain.ensures c.retain-2.ensures }
+returns g c p is =
+    let l = c.loop-i in
+    let x = c.args.self in
+    let test = of_transaction p in
+    let q : l.i ≡ x.len = omega arith in
+    let e : take l.i (pairs_in x) ≡ pairs_in x = take_all l.i (pairs_in x) (omega (arith, pairs-length x)) in
+    let f : take x.len l.stay ≡ map test (pairs_in x) = ap (λ m. take m l.stay) (sym q) ∙ l.invariant.1 p is ∙ ap (map test) e in
+    record {
+      pairs = kept x l.stay _ _ _ _ (search rules) c.retain.ensures c.retain-2.ensures ∙ ap (λ m. keep_by m (pairs_in x)) f ∙ keep_by_test test (pairs_in x);
+    }
 
 pub invariant_of-x-clause-rising : goal.invariant_of-x-clause-rising
-invariant_of-x-clause-rising c =
+invariant_of-x-clause-rising g c =
     let x = c.args.self in
-    rw (kept x c.args.stay _ _ _ _ (search rules) c.retain.ensures c.retain-2.ensures) (kept_rises pair_key (take x.len c.args.stay) (pairs_in x) x.rising)
+    let stay = c.loop-i.stay in
+    subst (Ascending pair_key) (sym (kept x stay _ _ _ _ (search rules) c.retain.ensures c.retain-2.ensures)) (kept_rises pair_key (take x.len stay) (pairs_in x) x.rising)
 
 pub invariant_of-x-clause-words : goal.invariant_of-x-clause-words
-invariant_of-x-clause-words c =
+invariant_of-x-clause-words g c =
     let x = c.args.self in
-    rw (flagged c.args.stay x.len _ _ _ (search rules) c.retain-2.ensures) (every_kept (λ t. t < 2 ^ 64) (take x.len c.args.stay) (take x.len x.transactions) x.words)
+    let stay = c.loop-i.stay in
+    subst (Every (λ t. t < 2 ^ 64)) (sym (flagged stay x.len _ _ _ (search rules) c.retain-2.ensures)) (every_kept (λ t. t < 2 ^ 64) (take x.len stay) (take x.len x.transactions) x.words)
