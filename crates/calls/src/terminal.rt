@@ -45,7 +45,7 @@ fn check_terminal(shard: Shard, cut: Time, stamped: u64, until: Time) -> Result<
 fn has_room(departures: Departures, shard: Shard) -> bool
     ensures { result ≡ has shard_of shard.0 (on_file departures) || not (leb 32 (length (on_file departures))) }
 {
-    departures.find(shard).is_some() || departures.len < 32
+    departures.find(shard).is_some() || departures.front.len < 32
 }
 
 // The stamp that comes with a terminal, whose words are read as the paper has them: a word that says whether, and a time.

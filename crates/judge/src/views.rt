@@ -59,7 +59,7 @@ impl View {
             is_readable: false,
         };
         let mut seen = Front::new(none);
-        for departure in &d.items[..d.len] {
+        for departure in d.front.as_slice() {
             seen.push(Seen::of(*departure, time));
         }
         View { seen }

@@ -1,13 +1,12 @@
 -- Two arrays side by side, and an array read through a function: what is done to the arrays at a place is
 -- done to the list they are read as. By walking down the lists.
 -- Assumes nothing.
-use Prim.Native.Nat.{ℕ, zero, suc, ◌≤◌, ◌<◌}
+use Prim.Native.Nat.{ℕ, zero, suc}
 use mathlib.Core.Path.{◌≡◌, refl, sym, ap, ◌∙◌}
 use mathlib.Core.Bool.{Bool}
 use mathlib.Core.List.{List, [], ◌∷◌, map}
 use native.Mathlib.Omega.{arith}
-use lib.ListN.{length, take, get_or, set, length-map, get_or-map}
-use lib.Seq.{take-set-lt, length-take-le, get_or-take}
+use lib.ListN.{length, take, get_or, set, get_or-map}
 use Rattle.lists.specs.Lists.{Every, zip_by, at, change, Ascending}
 use Rattle.std.specs.Prelude.{Some}
 use Rattle.lists.specs.Arrays.{place, rank}
@@ -40,15 +39,11 @@ module _ {A B : Type 0} (f : A → B) where
   read_take (suc n) (x ∷ l) = ap (λ r. f x ∷ r) (read_take n l)
 
   -- what is found by key is changed by writing it anew
-  pub changed_at : (key : B → ℕ) (t : ℕ) (g : B → B) (d : A) (a : List A) (n i : ℕ) (y : A) → n ≤ length a → Ascending key (map f (take n a)) →
-      place (at key t) 0 (map f (take n a)) ≡ Some i → f y ≡ g (f (get_or a i d)) → map f (take n (set a i y)) ≡ change key t g (map f (take n a))
-  changed_at key t g d a n i y h s e q =
-      let l = located key t (map f (take n a)) i e in
-      let k : i < n = omega (arith, l.below, length-map (take n a) f, length-take-le n a h) in
-      ap (map f) (take-set-lt n a i y k)
-      ∙ map-set f (take n a) i y
-      ∙ ap (set (map f (take n a)) i) (q ∙ ap g (sym (get_or-map f (take n a) i d ∙ ap f (get_or-take n a i d k))))
-      ∙ sym (l.changed (f d) g s)
+  pub changed_in : (key : B → ℕ) (t : ℕ) (g : B → B) (d : A) (a : List A) (i : ℕ) (y : A) → Ascending key (map f a) → place (at key t) 0 (map f a) ≡ Some i →
+      f y ≡ g (f (get_or a i d)) → map f (set a i y) ≡ change key t g (map f a)
+  changed_in key t g d a i y s e q =
+      let l = located key t (map f a) i e in
+      map-set f a i y ∙ ap (set (map f a) i) (q ∙ ap g (sym (get_or-map f a i d))) ∙ sym (l.changed (f d) g s)
 
 -- tests that agree on each rank the same
 pub rank_same : {A : Type 0} (p q : A → Bool) (l : List A) → Every (λ x. p x ≡ q x) l → rank p l ≡ rank q l

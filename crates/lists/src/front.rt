@@ -1,5 +1,5 @@
 // A list in the front of an array of N, since there is no heap: the first len of its items are the list.
-ghost use Rattle.std.specs.Prelude.{◌≡◌, ◌+◌, ◌≤◌, ◌<◌, ◌++◌, ◌∷◌, [], length, take};
+ghost use Rattle.std.specs.Prelude.{◌≡◌, ◌+◌, ◌≤◌, ◌<◌, ◌++◌, ◌∷◌, [], length, take, slice_set};
 
 use crate::fronts;
 use std::alloc::AllocError;
@@ -42,6 +42,15 @@ impl<T: Copy, const N: usize> Front<T, N> {
     {
         self.items[self.len] = x;
         self.len += 1;
+    }
+
+    // x put where another stands.
+    pub fn set(&mut self, i: usize, x: T)
+        requires { i < self.old.len }
+        ensures list { held self.new ≡ slice_set (held self.old) i x }
+        ensures count { self.new.len ≡ self.old.len }
+    {
+        self.items[i] = x;
     }
 
     // x put in at k: those from k on move up by one.

@@ -15,7 +15,7 @@ pub fn put_ledger<W: Write>(writer: &mut Writer<W>, ledger: &Ledger) {
         ledger.leg_span,
         ledger.rebuilt,
         ledger.roster.len as u64,
-        ledger.departures.len as u64,
+        ledger.departures.front.len as u64,
         ledger.issuers.len as u64,
     ]);
     put_entries(writer, ledger);
@@ -31,7 +31,7 @@ fn put_entries<W: Write>(writer: &mut Writer<W>, ledger: &Ledger) {
 }
 
 fn put_departures<W: Write>(writer: &mut Writer<W>, departures: &Departures) {
-    for departure in &departures.items[..departures.len] {
+    for departure in departures.front.as_slice() {
         put_departure(writer, *departure);
     }
 }

@@ -9,6 +9,8 @@ use lib.ListN.{length, take, get_or, get_or-map, length-append}
 use lib.Seq.{take_all}
 use Rattle.std.proofs.lemmas.List.{take_more, map-append}
 use Rattle.lists.specs.Lists.{Ascending, self, keep_by, cons_if}
+use Rattle.lists.specs.Front.{held}
+use Rattle.lists.proofs.Held.{held-length}
 use Rattle.lists.proofs.Distinct.{keep_by-more, keep_by_test}
 use Rattle.lists.proofs.Order.{ascending-map}
 use Rattle.rules.specs.Plain as plain
@@ -41,34 +43,31 @@ module _ (Says : Departure → Bool → Type 0) (x : Departures) where
   pub none-picked : (s : Set) → Holds [] s → Picked 0 s
   none-picked s h = record { flags = []; long = refl; few = omega (arith, front_length s, ap length h.holds); picks = h.holds; by = λ p q. refl }
 
-  -- the one at a place
-  abbrev at : Departure → ℕ → Departure
-  at d i = get_or (take x.len x.items) i d
+  -- the one at a place, read from a slice of them
+  module _ (items : List Departure) (e : items ≡ held x.front) (d : Departure) (i : ℕ) (s : Set) (b : Bool) (k : i < length items) (a : Says (get_or items i d) b) (q : Picked i s) where
+    abbrev here : Departure
+    here = get_or items i d
 
-  module _ (d : Departure) (i : ℕ) (s : Set) (b : Bool) (k : i < x.len) (a : Says (at d i) b) (q : Picked i s) where
     abbrev flags : List Bool
     flags = q.flags ++ b ∷ []
 
-    one : plain.Departure
-    one = plain_departure (at d i)
-
-    one-is : get_or (on_file x) i (plain_departure d) ≡ plain_departure (at d i)
-    one-is = get_or-map plain_departure (take x.len x.items) i d
+    one-is : get_or (on_file x) i (plain_departure d) ≡ plain_departure here
+    one-is = ap (λ l. get_or (map plain_departure l) i (plain_departure d)) (sym e) ∙ get_or-map plain_departure items i d
 
     within : i < length (on_file x)
-    within = omega (arith, file-length x)
+    within = omega (arith, file-length x, ap length e, held-length x.front)
 
     said : (p : plain.Departure → Bool) → Is p → flags ≡ map p (take (i + 1) (on_file x))
     said p h =
         ap (λ l. l ++ b ∷ []) (q.by p h)
-        ∙ ap (λ c. map p (take i (on_file x)) ++ c ∷ []) (h (at d i) b a ∙ ap p (sym one-is))
+        ∙ ap (λ c. map p (take i (on_file x)) ++ c ∷ []) (h here b a ∙ ap p (sym one-is))
         ∙ sym (map-append p (take i (on_file x)) (get_or (on_file x) i (plain_departure d) ∷ []))
         ∙ ap (map p) (sym (take_more (on_file x) i (plain_departure d) within))
 
     long : length flags ≡ i + 1
     long = length-append q.flags (b ∷ []) ∙ ap (λ m. m + 1) q.long
 
-    kept : keep_by flags (on_file x) ≡ keep_by q.flags (on_file x) ++ cons_if b (plain_departure (at d i)) []
+    kept : keep_by flags (on_file x) ≡ keep_by q.flags (on_file x) ++ cons_if b (plain_departure here) []
     kept =
         keep_by-more q.flags b (on_file x) (plain_departure d) (omega (arith, q.long, within))
         ∙ ap (λ j. keep_by q.flags (on_file x) ++ cons_if b (get_or (on_file x) j (plain_departure d)) []) q.long
@@ -80,38 +79,38 @@ module _ (Says : Departure → Bool → Type 0) (x : Departures) where
           flags = flags;
           long = long;
           few = omega (arith, q.few);
-          picks = q.picks ∙ ap (map shard_of) (sym (append-nil (keep_by q.flags (on_file x)))) ∙ ap (λ c. map shard_of (keep_by q.flags (on_file x) ++ cons_if c (plain_departure (at d i)) [])) (sym t) ∙ ap (map shard_of) (sym kept);
+          picks = q.picks ∙ ap (map shard_of) (sym (append-nil (keep_by q.flags (on_file x)))) ∙ ap (λ c. map shard_of (keep_by q.flags (on_file x) ++ cons_if c (plain_departure here) [])) (sym t) ∙ ap (map shard_of) (sym kept);
           by = said;
         }
 
     -- with the shard of one that passes put behind
-    grows : b ≡ true → front s ++ (at d i).shard.0 ∷ [] ≡ map shard_of (keep_by flags (on_file x))
+    grows : b ≡ true → front s ++ here.shard.0 ∷ [] ≡ map shard_of (keep_by flags (on_file x))
     grows t =
-        ap (λ l. l ++ (at d i).shard.0 ∷ []) q.picks
-        ∙ sym (map-append shard_of (keep_by q.flags (on_file x)) (plain_departure (at d i) ∷ []))
-        ∙ ap (λ c. map shard_of (keep_by q.flags (on_file x) ++ cons_if c (plain_departure (at d i)) [])) (sym t) ∙ ap (map shard_of) (sym kept)
+        ap (λ l. l ++ here.shard.0 ∷ []) q.picks
+        ∙ sym (map-append shard_of (keep_by q.flags (on_file x)) (plain_departure here ∷ []))
+        ∙ ap (λ c. map shard_of (keep_by q.flags (on_file x) ++ cons_if c (plain_departure here) [])) (sym t) ∙ ap (map shard_of) (sym kept)
 
-    pub may-push : b ≡ true → (s.shards.len < 40) × Ascending self (front s ++ (at d i).shard.0 ∷ [])
+    pub may-push : b ≡ true → (s.shards.len < 40) × Ascending self (front s ++ here.shard.0 ∷ [])
     may-push t = (
-      omega (arith, q.few, x.room),
+      omega (arith, q.few, x.front.room, ap length e, held-length x.front),
       rw (grows t) (ascending-map shard_of self shard_of (λ d. refl) (keep_by flags (on_file x)) (kept_rises shard_of flags (on_file x) x.rising)),
     )
 
-    pub picked : b ≡ true → (r : Set) → Holds (front s ++ (at d i).shard.0 ∷ []) r → Picked (i + 1) r
+    pub picked : b ≡ true → (r : Set) → Holds (front s ++ here.shard.0 ∷ []) r → Picked (i + 1) r
     picked t r h =
         record {
           flags = flags;
           long = long;
-          few = omega (arith, q.few, front_length r, front_length s, ap length h.holds, length-append (front s) ((at d i).shard.0 ∷ []));
+          few = omega (arith, q.few, front_length r, front_length s, ap length h.holds, length-append (front s) (here.shard.0 ∷ []));
           picks = h.holds ∙ grows t;
           by = said;
         }
 
-  pub all-picked : (i : ℕ) (s : Set) → x.len ≤ i → Picked i s → (p : plain.Departure → Bool) → Is p → Holds (shards_of p (on_file x)) s
-  all-picked i s k q p h =
+  pub all-picked : (items : List Departure) → items ≡ held x.front → (i : ℕ) (s : Set) → length items ≤ i → Picked i s → (p : plain.Departure → Bool) → Is p → Holds (shards_of p (on_file x)) s
+  all-picked items e i s k q p h =
       record {
         holds =
-            q.picks ∙ ap (λ fs. map shard_of (keep_by fs (on_file x))) (q.by p h ∙ ap (map p) (take_all i (on_file x) (omega (arith, file-length x))))
+            q.picks ∙ ap (λ fs. map shard_of (keep_by fs (on_file x))) (q.by p h ∙ ap (map p) (take_all i (on_file x) (omega (arith, file-length x, ap length e, held-length x.front))))
             ∙ ap (map shard_of) (keep_by_test p (on_file x));
       }
 

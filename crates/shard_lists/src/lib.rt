@@ -37,8 +37,7 @@ fn shards_of<F: Fn(&Departure) -> bool>(on_file: Departures, passes: F) -> Set
     ensures few { result.shards.len ≤ 32 }
 {
     let mut shards = Set::new();
-    let len = on_file.len;
-    for d in &on_file.items[..len] {
+    for d in on_file.front.as_slice() {
         if passes(d) {
             shards.push(d.shard);
         }

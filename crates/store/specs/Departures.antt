@@ -1,12 +1,13 @@
 -- What the departures on file are.
-use Rattle.std.specs.Prelude.{ℕ, ◌≤◌, ◌≡◌, Bool, List, map, eqb, ltb, length, take}
+use Rattle.std.specs.Prelude.{ℕ, ◌≤◌, ◌≡◌, Bool, List, map, eqb, ltb, length}
+use Rattle.lists.specs.Front.{held}
 use Rattle.rules.specs.Plain as plain
 use Rattle.rules.specs.Calls.{departed}
 pub use Rattle.store.specs.Stored.{stamp_of, plain_departure}
 use Rattle.store.specs.declared.departures.Departures.{Departures}
 
 abbrev pub on_file : Departures → List plain.Departure
-on_file x = map plain_departure (take x.len x.items)
+on_file x = map plain_departure (held x.front)
 
 abbrev pub is_of : ℕ → plain.Departure → Bool
 is_of shard d = eqb d.shard shard

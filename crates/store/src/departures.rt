@@ -1,11 +1,13 @@
 // The departures on file, by rising shard: where each departed shard's chain was cut, and until when what it left is readable.
 ghost use Rattle.std.specs.Prelude.{◌≡◌, ◌≤◌, ◌<◌, length, map, take};
 ghost use Rattle.lists.specs.Lists.{Ascending};
+ghost use Rattle.lists.specs.Front.{held};
 ghost use Rattle.rules.specs.Plain.{shard_of};
 ghost use Rattle.store.specs.Props.{Ascending-prop};
 ghost use Rattle.store.specs.Stored.{plain_departure};
 
-use lists::{fronts, sorted};
+use lists::front::Front;
+use lists::sorted;
 use types::{Shard, Time};
 
 // until is the stamp, and None while the departure has none.
@@ -16,14 +18,10 @@ pub struct Departure {
     pub until: Option<Time>,
 }
 
-// A front of fixed memory with its length, since the ledger has no heap.
 #[derive(Clone, Copy)]
 pub struct Departures {
-    pub items: [Departure; 32],
-    pub len: usize,
-    pub ghost room: { len ≤ 32 },
-    pub ghost item_length: { length items ≡ 32 },
-    pub ghost rising: { Ascending shard_of (map plain_departure (take len items)) } by { Ascending-prop shard_of (map plain_departure (take len items)) },
+    pub front: Front<Departure, 32>,
+    pub ghost rising: { Ascending shard_of (map plain_departure (held front)) } by { Ascending-prop shard_of (map plain_departure (held front)) },
 }
 
 impl Departure {
@@ -56,32 +54,30 @@ impl Departures {
             until: None,
         };
         Departures {
-            items: [d; 32],
-            len: 0,
+            front: Front::new(d),
         }
     }
 
     pub fn find(self, shard: Shard) -> Option<usize>
         ensures { result ≡ place (is_of shard.0) 0 (on_file self) }
     {
-        self.items[..self.len].iter().position(|d| d.shard == shard)
+        self.front.as_slice().iter().position(|d| d.shard == shard)
     }
 
     // How many departures are of a lower shard.
     fn rank(self, shard: Shard) -> usize
         ensures { result ≡ rank (is_under shard.0) (on_file self) }
     {
-        sorted::rank(&self.items[..self.len], |d| d.shard < shard)
+        sorted::rank(self.front.as_slice(), |d| d.shard < shard)
     }
 
     // The departure put in at k.
     fn insert_at(self, k: usize, d: Departure) -> Departures
-        requires { (k ≤ self.len) × (self.len < 32) × Ascending shard_of (insert_at k (plain_departure d) (on_file self)) }
+        requires { (k ≤ self.front.len) × (self.front.len < 32) × Ascending shard_of (insert_at k (plain_departure d) (on_file self)) }
         ensures { Holds (insert_at k (plain_departure d) (on_file self)) result }
     {
         let mut x = self;
-        fronts::insert_at(&mut x.items, self.len, k, d);
-        x.len += 1;
+        x.front.insert_at(k, d);
         x
     }
 
@@ -110,17 +106,17 @@ impl Departures {
             return self;
         };
         let mut x = self;
-        let d = x.items[i];
-        x.items[i] = d.with_stamp(until);
+        let d = x.front.items[i];
+        x.front.set(i, d.with_stamp(until));
         x
     }
 
     // Those whose flag is up, in their order.
     pub fn retain(self, stay: [bool; 32]) -> Departures
-        ensures { Holds (keep_by (take self.len stay) (on_file self)) result }
+        ensures { Holds (keep_by (take self.front.len stay) (on_file self)) result }
     {
         let mut x = self;
-        x.len = fronts::retain(&mut x.items, &stay[..self.len]);
+        x.front.retain(&stay[..self.front.len]);
         x
     }
 }

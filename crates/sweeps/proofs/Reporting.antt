@@ -85,7 +85,7 @@ enough_room now reports room q = ltb-false room (3 * reports) (go (is_time now) 
 
 module _ (l : Ledger) (h : Held l) (now : ℕ) where
   file-few : length (on_file l.departures) ≤ 32
-  file-few = omega (arith, file-length l.departures, l.departures.room)
+  file-few = omega (arith, file-length l.departures, l.departures.front.room)
 
   entries-few : length (entries_of l) ≤ 48
   entries-few = omega (arith, entries-length l h, l.roster.room)
@@ -193,7 +193,7 @@ module _ (l : Ledger) (h : Held l) (now : ℕ) where
 
       module _ (r : Roster) (k : Retained l.roster (take l.roster.len c.stay) r) (x : Issuers)
           (i : issuers.Holds (unnamed_by (take l.roster.len c.stay) (keys_of l.roster) (pairs_in l.issuers)) x) (f : Departures)
-          (d : departures.Holds (keep_by (take l.departures.len c.needed) (on_file l.departures)) f) where
+          (d : departures.Holds (keep_by (take l.departures.front.len c.needed) (on_file l.departures)) f) where
         abbrev left : List plain.Departure
         left = keep (remains (contents l).local (survivors now (contents l))) (contents l).departures
 

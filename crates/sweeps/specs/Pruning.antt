@@ -24,7 +24,7 @@ begun = record { stay = replicate 48 false; needed = replicate 32 false; some_un
 -- who stays, which departures remain, the words of the reports, how many reports and how many fall
 pub record Judges (l : Ledger) (now : ℕ) (r : Pruning) : Type 0 where
   pub stay : take l.roster.len r.stay ≡ map (stands (contents l) now) (entries_of l)
-  pub needed : take l.departures.len r.needed ≡ map (remains l.local.0 (survivors now (contents l))) (on_file l.departures)
+  pub needed : take l.departures.front.len r.needed ≡ map (remains l.local.0 (survivors now (contents l))) (on_file l.departures)
   pub words : take (report_size * r.reports) r.words ≡ concat_map report_words (reports now (contents l))
   pub count : r.reports ≡ length (reports now (contents l))
   pub fallen : r.fallen ≡ length (fallen now (contents l))

@@ -5,7 +5,7 @@ use std::path::Path;
 use std::{fs, io};
 
 /// The crates whose structs make up a ledger.
-const CRATES: [&str; 4] = ["types", "entry", "store", "ledger"];
+const CRATES: [&str; 5] = ["lists", "types", "entry", "store", "ledger"];
 
 #[derive(Clone, Copy)]
 pub struct Layout {
@@ -13,9 +13,9 @@ pub struct Layout {
     align: usize,
 }
 
-/// The types of a struct's fields, or of the fields of each of an enum's cases.
+/// A struct's parameters and the types of its fields, or the types of the fields of each of an enum's cases.
 enum Declared {
-    Struct(Vec<String>),
+    Struct(Vec<String>, Vec<String>),
     Enum(Vec<Vec<String>>),
 }
 
@@ -46,13 +46,20 @@ impl Layouts {
         if let Some(inner) = name.strip_prefix("Option<").and_then(|rest| rest.strip_suffix('>')) {
             return self.of_enum(&[Vec::new(), vec![inner.to_string()]]);
         }
-        match name.rsplit("::").next().unwrap_or(name) {
+        let (head, arguments) = applied(name);
+        match head.rsplit("::").next().unwrap_or(head) {
             "u8" | "bool" => number(1),
             "u16" => number(2),
             "u32" => number(4),
             "u64" | "usize" => number(8),
             other => match self.declared.get(other) {
-                Some(Declared::Struct(fields)) => self.in_order(fields),
+                Some(Declared::Struct(parameters, fields)) => {
+                    let given: Vec<String> = fields
+                        .iter()
+                        .map(|field| with_arguments(field, parameters, &arguments))
+                        .collect();
+                    self.in_order(&given)
+                }
                 Some(Declared::Enum(cases)) => self.of_enum(cases),
                 None => Err(format!("no declaration of {other} was found")),
             },
@@ -118,12 +125,41 @@ fn declare(source: &str, declared: &mut HashMap<String, Declared>) {
         let text = head[kind.len()..].to_string() + &bare[at + 1..].concat();
         let body = text.find(['(', '{', ';']).unwrap_or(text.len());
         let parts = parts(enclosed(&text[body..]));
+        let (name, parameters) = applied(text[..body].trim());
         let shape = match kind {
-            "struct" => Declared::Struct(types(&parts)),
+            "struct" => Declared::Struct(parameters.iter().map(|one| parameter(one)).collect(), types(&parts)),
             _ => Declared::Enum(parts.iter().map(|case| types_of_case(case)).collect()),
         };
-        declared.insert(text[..body].trim().to_string(), shape);
+        declared.insert(name.to_string(), shape);
     }
+}
+
+/// A type's name, and what stands behind it in angle brackets.
+fn applied(name: &str) -> (&str, Vec<&str>) {
+    match name.strip_suffix('>').and_then(|open| open.split_once('<')) {
+        Some((head, inside)) => (head, parts(inside)),
+        None => (name, Vec::new()),
+    }
+}
+
+/// The name of a parameter, as of `T`, `T: Copy` or `const N: usize`.
+fn parameter(declared: &str) -> String {
+    let bare = declared.strip_prefix("const ").unwrap_or(declared);
+    bare.split(':').next().unwrap_or(bare).trim().to_string()
+}
+
+/// A field's type with the arguments in the place of the parameters.
+fn with_arguments(field: &str, parameters: &[String], arguments: &[&str]) -> String {
+    let is_name = |letter: char| letter.is_alphanumeric() || letter == '_';
+    field
+        .split_inclusive(|letter| !is_name(letter))
+        .map(|piece| {
+            let word = piece.trim_end_matches(|letter| !is_name(letter));
+            let place = parameters.iter().position(|one| one == word);
+            let argument = place.and_then(|at| arguments.get(at)).unwrap_or(&word);
+            argument.to_string() + &piece[word.len()..]
+        })
+        .collect()
 }
 
 /// What stands between the first bracket and its partner; nothing where there is none.
@@ -142,16 +178,21 @@ fn enclosed(text: &str) -> &str {
     ""
 }
 
-/// Split at the commas that stand in no bracket.
+/// Split at the commas that stand in no bracket. An angle is one where it stands right behind a name; in the fact of a ghost field it is a sign.
 fn parts(text: &str) -> Vec<&str> {
     let mut depth = 0;
-    text.split(|letter| {
+    let mut angles = 0;
+    let mut before = ' ';
+    text.split(|letter: char| {
         match letter {
             '(' | '{' | '[' => depth += 1,
             ')' | '}' | ']' => depth -= 1,
+            '<' if before.is_alphanumeric() => angles += 1,
+            '>' if 0 < angles => angles -= 1,
             _ => {}
         }
-        depth == 0 && letter == ','
+        before = letter;
+        depth == 0 && angles == 0 && letter == ','
     })
     .map(str::trim)
     .filter(|part| !part.is_empty())

@@ -15,4 +15,4 @@ returns-then-is_some c =
 pub returns-else-is_some : goal.returns-else-is_some
 returns-else-is_some c =
     let l = on_file c.args.departures in
-    room_new c.args.departures.len (length l) (has shard_of c.args.shard.0 l) (lacks_by l c.args.shard.0 c.find.result c.find.ensures (search (rules, tests))) (file-length c.args.departures)
+    room_new c.args.departures.front.len (length l) (has shard_of c.args.shard.0 l) (lacks_by l c.args.shard.0 c.find.result c.find.ensures (search (rules, tests))) (file-length c.args.departures)

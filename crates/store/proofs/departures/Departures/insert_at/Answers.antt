@@ -1,5 +1,6 @@
 -- What is put in stands on file at its place.
-use Rattle.std.proofs.Common.{◌∙◌, ap, take, map}
+use Rattle.std.proofs.Common.{◌∙◌, ap, map}
+use Rattle.lists.specs.Front.{held}
 use Rattle.lists.proofs.Distinct.{map-insert_at}
 use Rattle.store.specs.Departures.{plain_departure}
 use Rattle.store.proofs.departures.Departures.insert_at.Goals as goal
@@ -7,9 +8,9 @@ use Rattle.store.proofs.departures.Departures.insert_at.Goals as goal
 pub returns : goal.returns
 returns c =
     record {
-      file = ap (map plain_departure) c.insert_at.ensures.front ∙ map-insert_at plain_departure c.args.k c.args.d (take c.args.self.len c.args.self.items);
+      file = ap (map plain_departure) c.insert_at.ensures.list ∙ map-insert_at plain_departure c.args.k c.args.d (held c.args.self.front);
     }
 
-pub invariant_of-x-clause-rising : goal.invariant_of-x-clause-rising
-invariant_of-x-clause-rising c =
-    rw (c.insert_at.ensures.front, map-insert_at plain_departure c.args.k c.args.d (take c.args.self.len c.args.self.items)) c.requires.2
+pub invariant_of-x : goal.invariant_of-x
+invariant_of-x c =
+    record { rising = rw (c.insert_at.ensures.list, map-insert_at plain_departure c.args.k c.args.d (held c.args.self.front)) c.requires.2 }
