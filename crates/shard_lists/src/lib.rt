@@ -72,6 +72,7 @@ fn destinations(e: Entry, local: Shard, r: RecordKey) -> Set
 {
     let mut shards = Set::new();
     let mut start = 0;
+    // By place: sizes, ends and ids lie side by side.
     for i in 0..e.edges_len as usize {
         let size = e.sizes[i] as usize;
         if is_issue(Shard(e.froms[i]), e.ids[i], local, r) {
