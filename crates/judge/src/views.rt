@@ -1,5 +1,5 @@
 // The departures on file as a prune reads them.
-ghost use Rattle.std.specs.Prelude.{◌≡◌, ◌<◌};
+ghost use Rattle.std.specs.Prelude.{◌<◌};
 
 use lists::front::Front;
 use store::departures::{Departure, Departures};
@@ -22,7 +22,6 @@ pub struct View {
 
 impl Seen {
     ghost use Rattle.rules.specs.Good.{GoodDeparture};
-    ghost use Rattle.rules.specs.Prune.{readable};
     ghost use Rattle.store.specs.Departures.{plain_departure};
     ghost use Rattle.judge.specs.View.{Sees};
 

@@ -1,5 +1,5 @@
 // A list in the front of an array of N, since there is no heap: the first len of its items are the list.
-ghost use Rattle.std.specs.Prelude.{◌≡◌, ◌+◌, ◌≤◌, ◌<◌, ◌++◌, ◌∷◌, [], length, take, slice_set};
+ghost use Rattle.std.specs.Prelude.{◌≡◌, ◌+◌, ◌≤◌, ◌<◌, ◌++◌, ◌∷◌, [], length, slice_set};
 
 use crate::fronts;
 use std::alloc::AllocError;

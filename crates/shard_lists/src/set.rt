@@ -1,6 +1,6 @@
 // A set of shards, rising: what claimants, counterparts and departures are gathered in before they are written out. At most 32 departures
 // and eight shards of a trie come together.
-ghost use Rattle.std.specs.Prelude.{◌≡◌, ◌+◌, ◌≤◌, ◌<◌, ◌++◌, ◌∷◌, [], length};
+ghost use Rattle.std.specs.Prelude.{◌+◌, ◌≤◌, ◌<◌, ◌++◌, ◌∷◌, [], length};
 ghost use Rattle.lists.specs.Lists.{Ascending, include, include_all, self as itself};
 ghost use Rattle.lists.specs.Front.{held};
 ghost use Rattle.store.specs.Props.{Ascending-prop};

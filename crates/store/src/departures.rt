@@ -1,5 +1,5 @@
 // The departures on file, by rising shard: where each departed shard's chain was cut, and until when what it left is readable.
-ghost use Rattle.std.specs.Prelude.{◌≡◌, ◌≤◌, ◌<◌, length, map, take};
+ghost use Rattle.std.specs.Prelude.{◌≡◌, ◌≤◌, ◌<◌, map, take};
 ghost use Rattle.lists.specs.Lists.{Ascending};
 ghost use Rattle.lists.specs.Front.{held};
 ghost use Rattle.rules.specs.Plain.{shard_of};

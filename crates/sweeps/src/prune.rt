@@ -35,11 +35,7 @@ pub struct Pruning {
 fn with_needs(mut flags: [bool; 32], e: &Entry, local: Shard, view: &View) -> [bool; 32]
     ensures { Needed local.0 (plain_entry e.now) view.now flags result }
 {
-<<<<<<< ours
     // By place: the flags go beside the view's items.
-=======
-    // By place: flags and departures lie side by side.
->>>>>>> theirs
     for j in 0..view.seen.len {
         flags[j] = flags[j] || needs(e, local, view.seen.items[j]);
     }
