@@ -72,6 +72,7 @@ impl<T: Copy, const N: usize> Front<T, N> {
     }
 }
 
+// By hand: no derive gives these to a struct with a parameter and a ghost field.
 impl<T: Copy, const N: usize> Copy for Front<T, N> {}
 
 impl<T: Copy, const N: usize> Clone for Front<T, N> {
