@@ -114,6 +114,7 @@ impl Issuers {
         ensures { Retains (λ t. FnReturns F.Fn stays (t, tt)) self result }
     {
         let mut stay = [false; 384];
+        // By place: each flag stands beside its transaction.
         for i in 0..self.len {
             let tx = Transaction(self.transactions[i]);
             stay[i] = stays(tx);

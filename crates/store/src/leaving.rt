@@ -14,6 +14,7 @@ fn dropped_from(roster: Roster, stay: [bool; 48]) -> Front<u64, 48>
     ensures { held result ≡ dropped_by (take roster.len stay) (keys_of roster) }
 {
     let mut gone = Front::new(0);
+    // By place: flags and keys lie side by side.
     for i in 0..roster.len {
         if !stay[i] {
             gone.push(roster.keys[i]);

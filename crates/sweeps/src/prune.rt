@@ -39,6 +39,7 @@ pub struct Pruning {
 fn with_needs(mut flags: [bool; 32], e: &Entry, local: Shard, view: &View) -> [bool; 32]
     ensures { Needed local.0 (plain_entry e.now) view.now flags result }
 {
+    // By place: flags and departures lie side by side.
     for j in 0..view.seen.len {
         flags[j] = flags[j] || needs(e, local, view.seen.items[j]);
     }

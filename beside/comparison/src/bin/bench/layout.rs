@@ -43,7 +43,10 @@ impl Layouts {
         if let Some(array) = name.strip_prefix('[') {
             return self.of_array(array);
         }
-        if let Some(inner) = name.strip_prefix("Option<").and_then(|rest| rest.strip_suffix('>')) {
+        if let Some(inner) = name
+            .strip_prefix("Option<")
+            .and_then(|rest| rest.strip_suffix('>'))
+        {
             return self.of_enum(&[Vec::new(), vec![inner.to_string()]]);
         }
         let (head, arguments) = applied(name);
@@ -127,7 +130,10 @@ fn declare(source: &str, declared: &mut HashMap<String, Declared>) {
         let parts = parts(enclosed(&text[body..]));
         let (name, parameters) = applied(text[..body].trim());
         let shape = match kind {
-            "struct" => Declared::Struct(parameters.iter().map(|one| parameter(one)).collect(), types(&parts)),
+            "struct" => Declared::Struct(
+                parameters.iter().map(|one| parameter(one)).collect(),
+                types(&parts),
+            ),
             _ => Declared::Enum(parts.iter().map(|case| types_of_case(case)).collect()),
         };
         declared.insert(name.to_string(), shape);
