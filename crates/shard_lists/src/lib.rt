@@ -37,7 +37,8 @@ fn shards_of<F: Fn(&Departure) -> bool>(on_file: Departures, passes: F) -> Set
     ensures few { result.shards.len ≤ 32 }
 {
     let mut shards = Set::new();
-    for d in on_file.front.as_slice() {
+    let all = on_file.front.as_slice();
+    for d in all {
         if passes(d) {
             shards.push(d.shard);
         }
@@ -127,7 +128,8 @@ fn is_over(d: Departure, anchor: Time, far: &[u64]) -> bool
     anchor < d.cut && owns_some(d.shard, far)
 }
 
-// The trie's shards of the routes put into a set.
+// The trie's shards of the routes put into a set. What the depth has to be is asked here and in beyond, as shard_for_route asks it: a
+// struct for it would be longer than the two clauses.
 fn put_trie(shards: &mut Set, far: &Front<u64, 8>, d: u32)
     requires { (shards.old.shards.len ≤ 32) × (leb d 32 ≡ true) }
     ensures { Holds (include_all self (map (shard_for_route d) (held far.now)) (front shards.old)) shards.new }

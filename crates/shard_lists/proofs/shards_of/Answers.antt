@@ -13,12 +13,12 @@ pub push-requires : goal.push-requires
 push-requires g c =
     let l = c.loop-d in
     let said = says_at g.F.Fn c.passes.ensures refl in
-    may-push _ c.args.on_file _ c.as_slice-d-items.ensures _ l.d-index l.shards _ (omega arith) said l.invariant c.if-passes.true
+    may-push _ c.args.on_file _ c.as_slice-all.ensures _ l.d-index l.shards _ (omega arith) said l.invariant c.if-passes.true
 
 pub loop-d-preserved : goal.loop-d-preserved
 loop-d-preserved g c =
     let l = c.loop-d in
-    let e = c.as_slice-d-items.ensures in
+    let e = c.as_slice-all.ensures in
     let said = says_at g.F.Fn c.passes.ensures refl in
     elim c.if-passes.branch [
       | then-passes w ↦ rw w.shards-is (picked _ c.args.on_file _ e _ l.d-index l.shards _ (omega arith) said l.invariant w.if-passes.true _ w.push.ensures)
@@ -29,7 +29,7 @@ pub returns : goal.returns
 returns g c =
     let l = c.loop-d in
     let x = c.args.on_file in
-    let e = c.as_slice-d-items.ensures in
+    let e = c.as_slice-all.ensures in
     record {
       gathered = λ p says. all-picked _ x _ e l.d-index l.shards (omega arith) l.invariant p says;
       few = omega (arith, l.invariant.few, ap length e, held-length x.front, x.front.room);
