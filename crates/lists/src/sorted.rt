@@ -1,11 +1,10 @@
 // Items that rise in the front of a slice: where one ranks, and putting a number in. The slice is lent, so that nothing of it is copied.
-ghost use Rattle.std.specs.Prelude.{◌≤◌, length, take};
+ghost use Rattle.std.specs.Prelude.{◌≡◌, ◌≤◌, length, take, drop};
 ghost use Rattle.std.specs.Fn.{FnReturnsAt};
 ghost use Rattle.lists.specs.Lists.{include, Ascending, self};
-ghost use Rattle.lists.specs.Arrays.{Ranks, Included};
+ghost use Rattle.lists.specs.Arrays.{Ranks, leads, Included};
 
 use crate::fronts;
-use crate::slices::contains;
 
 // How many items, from the front, pass before the first that does not.
 pub fn rank<T, F: Fn(&T) -> bool>(s: &[T], is_under: F) -> usize
@@ -15,16 +14,25 @@ pub fn rank<T, F: Fn(&T) -> bool>(s: &[T], is_under: F) -> usize
     s.iter().take_while(|x| is_under(x)).count()
 }
 
-// The first n with x among them: how many they are then. The count is handed in beside the slice,
-// since it takes one place more than n to put x in.
+// Whether x stands at k among the first n: where it stands at all if k is its rank. One comparison, where `contains` goes through all, which
+// counterparts took a third longer for.
+fn stands(s: &[u64], n: usize, k: usize, x: u64) -> bool
+    requires { n ≤ length s.now }
+    ensures { result ≡ leads self x (drop k (take n s.now)) }
+{
+    k < n && s[k] == x
+}
+
+// The first n with x among them: how many they are then. The count is handed in beside the slice, since it takes one place more than n to
+// put x in.
 pub fn include(s: &mut [u64], n: usize, x: u64) -> usize
     requires { (n ≤ length s.old) × Ascending self (take n s.old) × (length (include self x (take n s.old)) ≤ length s.old) }
     ensures { Included s.old n x s.new result }
 {
-    if contains(&s[..n], x) {
+    let k = rank(&s[..n], |y| *y < x);
+    if stands(s, n, k, x) {
         return n;
     }
-    let k = rank(&s[..n], |y| *y < x);
     fronts::insert_at(s, n, k, x);
     n + 1
 }

@@ -22,7 +22,8 @@ pub struct Issuers {
     pub ghost words: { Every (λ t. t < 2 ^ 64) (take len transactions) } by { Below-prop (2 ^ 64) (take len transactions) },
 }
 
-// Whether the pair (a, b) stands before (r, t): by record, then by transaction.
+// Whether the pair (a, b) stands before (r, t): by record, then by transaction. This and the next are a line over derived operators, whose
+// contract says the rule by its name.
 fn leads(a: RecordKey, b: Transaction, r: RecordKey, t: Transaction) -> bool
     ensures { result ≡ leads_pair a.0 (number_of b) r.0 (number_of t) }
 {

@@ -6,6 +6,12 @@ use Rattle.entry.specs.Entry.{plain_entry}
 use Rattle.calls.proofs.Single.{fated-is}
 use Rattle.calls.proofs.release.fated.Goals as goal
 
-pub returns : goal.returns
+pub returns-then-let_go : goal.returns-then-let_go
 unfolding plain_entry
-returns c = rw (fated-is c.args.ledger c.requires (number_of c.args.tx)) at (c.let_go.ensures (λ e. is_leg e.part) (λ e b k. search (rules, tests)))
+returns-then-let_go c =
+    rw (fated-is c.args.ledger c.requires (number_of c.args.tx), c.if-let_go.true) at (c.let_go.ensures (λ e. is_leg e.part) (λ e b k. search (rules, tests)) 2)
+
+pub returns-else-let_go : goal.returns-else-let_go
+unfolding plain_entry
+returns-else-let_go c =
+    rw (fated-is c.args.ledger c.requires (number_of c.args.tx), c.if-let_go.false) at (c.let_go.ensures (λ e. is_leg e.part) (λ e b k. search (rules, tests)) 2)

@@ -7,27 +7,27 @@ use Rattle.calls.proofs.Single.{released_unknown, released_other, released-passi
 use Rattle.calls.proofs.release.let_go.Goals as goal
 
 pub returns-in_default : goal.returns-in_default
-returns-in_default g c = λ q says. released_unknown c.args.ledger c.requires.held (number_of c.args.tx) q c.args.answer (sym c.find.ensures ∙ c.in_default.is)
+returns-in_default g c = λ q says n. released_unknown c.args.ledger.now c.requires.held (number_of c.args.tx) q n (sym c.find.ensures ∙ c.in_default.is)
 
 pub offset_bounds-ledger-k : goal.offset_bounds-ledger-k
-offset_bounds-ledger-k g c = omega (arith, (found_at c.args.ledger c.requires.held (number_of c.args.tx) c.in-Some.k (sym c.find.ensures ∙ c.in-Some.is)).place, c.args.ledger.roster.room)
+offset_bounds-ledger-k g c = omega (arith, (found_at c.args.ledger.now c.requires.held (number_of c.args.tx) c.in-Some.k (sym c.find.ensures ∙ c.in-Some.is)).place, c.args.ledger.now.roster.room)
 
 pub bounds-ledger-k : goal.bounds-ledger-k
-bounds-ledger-k g c = omega (arith, (found_at c.args.ledger c.requires.held (number_of c.args.tx) c.in-Some.k (sym c.find.ensures ∙ c.in-Some.is)).place, c.args.ledger.roster.room)
+bounds-ledger-k g c = omega (arith, (found_at c.args.ledger.now c.requires.held (number_of c.args.tx) c.in-Some.k (sym c.find.ensures ∙ c.in-Some.is)).place, c.args.ledger.now.roster.room)
 
 pub bounds-ledger-slot : goal.bounds-ledger-slot
-bounds-ledger-slot g c = (found_at c.args.ledger c.requires.held (number_of c.args.tx) c.in-Some.k (sym c.find.ensures ∙ c.in-Some.is)).slot
+bounds-ledger-slot g c = (found_at c.args.ledger.now c.requires.held (number_of c.args.tx) c.in-Some.k (sym c.find.ensures ∙ c.in-Some.is)).slot
 
 pub returns-then-not-goes : goal.returns-then-not-goes
-returns-then-not-goes g c = λ q says.
-    released_other c.args.ledger c.requires.held (number_of c.args.tx) q c.args.answer c.in-Some.k _ (sym c.find.ensures ∙ c.in-Some.is)
+returns-then-not-goes g c = λ q says n.
+    released_other c.args.ledger.now c.requires.held (number_of c.args.tx) q n c.in-Some.k _ (sym c.find.ensures ∙ c.in-Some.is)
     (sym (says _ _ (says_at g.F.Fn c.goes.ensures refl)) ∙ c.if-not-goes.true)
 
 pub remove_at-ledger-requires : goal.remove_at-ledger-requires
 remove_at-ledger-requires g c =
-    (found_at c.args.ledger c.requires.held (number_of c.args.tx) c.in-Some.k (sym c.find.ensures ∙ c.in-Some.is)).place
+    (found_at c.args.ledger.now c.requires.held (number_of c.args.tx) c.in-Some.k (sym c.find.ensures ∙ c.in-Some.is)).place
 
 pub returns : goal.returns
-returns g c = λ q says.
-    released-passing c.args.ledger c.requires.held (number_of c.args.tx) q c.args.answer c.in-Some.k _ (sym c.find.ensures ∙ c.in-Some.is)
+returns g c = λ q says n.
+    released-passing c.args.ledger.now c.requires.held (number_of c.args.tx) q n c.in-Some.k _ (sym c.find.ensures ∙ c.in-Some.is)
     (sym (says _ _ (says_at g.F.Fn c.goes.ensures refl)) ∙ c.if-not-goes.false) c.remove_at-ledger.result c.without-ledger.result c.remove_at-ledger.ensures c.without-ledger.ensures _
