@@ -1,12 +1,12 @@
 -- Lists by transaction: the entry that a loop over the roster meets, what is left behind it, and what the lists' tests are of each entry.
 -- Assumes nothing.
-use Prim.Native.Nat.{ℕ, suc, ◌+◌, ◌-◌, ◌*◌, ◌^◌, ◌≤◌, ◌<◌}
+use Prim.Native.Nat.{ℕ, suc, ◌+◌, ◌-◌, ◌*◌, ◌≤◌, ◌<◌}
 use mathlib.Core.Path.{◌≡◌, refl, sym, ap, ◌∙◌}
 use mathlib.Core.Bool.{Bool, true, false, not, ◌&&◌, ◌||◌, false≢true}
 use mathlib.Core.List.{List, [], ◌∷◌, ◌++◌, Memᴰ}
 use native.Mathlib.Omega.{arith}
-use borrow.Author.Tests.{eq-eqb, ne_eqb, eqb-true, leb-true}
-use lib.Dec.{eqb, leb}
+use borrow.Author.Tests.{eq-eqb, ne_eqb, eqb-true}
+use lib.Dec.{eqb}
 use lib.ListN.{length, take, drop, get_or, length-map, length-append}
 use lib.Seq.{length-take-le, get_or-take}
 use Rattle.lists.specs.Lists.{cons_if, keep, concat_map, has, without, Above, Ascending, self}
@@ -70,11 +70,6 @@ unfolding contents
 at_turn l h i b =
     let a = entry_at l h i b in
     rw (get_or-take l.roster.len l.roster.slots i 0 b) (record { place = a.place; good = a.good; next = a.next })
-
--- V is within what a sum of two times fits.
-pub validity-small : (l : Ledger) → Held l → l.validity < 2 ^ 48
-unfolding contents
-validity-small l h = omega (arith, leb-true l.validity (2 ^ 40) (and_right (leb 1 l.validity) (leb l.validity (2 ^ 40)) h.good.frame.validity))
 
 -- One less without a number of a rising list.
 above_kept : (x : ℕ) (l : List ℕ) → Above self x l → length (without self x l) ≡ length l

@@ -1,18 +1,15 @@
 -- How a lookup reads what the rules say: of an entry found, of none, and of numbers that the table refuses.
 -- Assumes nothing.
-use Prim.Native.Nat.{ℕ, ◌^◌, ◌<◌}
+use Prim.Native.Nat.{ℕ}
 use mathlib.Core.Path.{◌≡◌, refl, sym, ap, ◌∙◌}
 use mathlib.Core.Bool.{Bool, true, false, ◌&&◌}
 use mathlib.Core.List.{List, [], ◌∷◌}
-use native.Mathlib.Omega.{arith}
-use borrow.Author.Tests.{ltb-true}
 use lib.ListN.{get_or}
 use Rattle.lists.specs.Arrays.{place}
 use Rattle.rules.specs.Plain as plain
 use Rattle.rules.specs.Plain.{Plain}
-use Rattle.rules.specs.Numbers.{is_time}
 use Rattle.rules.specs.Outcome.{Outcome, done, unless, ◌gives◌then◌, yes_no}
-use Rattle.rules.specs.Readings.{Question, question_refusal, lookup, of_entry}
+use Rattle.rules.specs.Readings.{lookup, of_entry}
 use Rattle.std.specs.Prelude.{Result, Ok, Err, None}
 use Rattle.std.specs.Int.{from_bool}
 use Rattle.types.specs.declared.refusal.Refusal.{Refusal}
@@ -67,11 +64,3 @@ stops b n rest h = rw h
 
 pub goes_on : (b : Bool) (n rest : ℕ) → b ≡ false → (b gives n then rest) ≡ rest
 goes_on b n rest h = rw h
-
--- numbers of a question that the table lets through: its at is a time
-pub timely : (q : Question) (now : ℕ) → question_refusal q now ≡ 0 → q.at < 2 ^ 48
-timely q now h = ltb-true q.at (2 ^ 48) (go (is_time q.at) refl)
-  where
-    go : (b : Bool) → is_time q.at ≡ b → is_time q.at ≡ true
-    go true e = e
-    go false e = absurd (omega (arith, rw e at h))
