@@ -5,7 +5,7 @@ ghost use Rattle.rules.specs.Calls.{after_abandonment};
 ghost use Rattle.rules.specs.Words.{group_count};
 ghost use Rattle.store.specs.Roster.{keys_of};
 ghost use Rattle.ledger.specs.Contents.{Held, contents};
-ghost use Rattle.ledger.specs.Meets.{Meets};
+ghost use Rattle.ledger.specs.Meets.{Meets, saying};
 ghost use Rattle.types.specs.Refusals.{refused_in};
 ghost use Rattle.batches.specs.Abandoned.{transactions, new_to, refusal_by};
 ghost use Rattle.types.specs.Transactions.{number_of};
@@ -26,8 +26,8 @@ fn is_among(groups: Record<'_>, n: usize, tx: Transaction) -> bool
 
 // How many distinct transactions are not yet owed: a group counts if no earlier one is of its transaction. A filter would be no plainer,
 // since two tests pass a group by, each for its own reason.
-fn count_new(roster: Roster, groups: Record<'_>) -> usize
-    ensures { result ≡ length (new_to (keys_of roster) (transactions groups.entry.words.now)) }
+fn count_new(roster: &Roster, groups: Record<'_>) -> usize
+    ensures { result ≡ length (new_to (keys_of roster.now) (transactions groups.entry.words.now)) }
 {
     let mut count = 0;
     for i in 0..groups.len() {
@@ -44,8 +44,8 @@ fn count_new(roster: Roster, groups: Record<'_>) -> usize
 }
 
 // The words of a record and the room that they ask for, by the table.
-fn check(roster: Roster, words: &[u64]) -> Result<Record<'_>, Refusal>
-    ensures refused { refused_in result ≡ refusal_by (keys_of roster) words.now }
+fn check<'a>(roster: &Roster, words: &'a [u64]) -> Result<Record<'a>, Refusal>
+    ensures refused { refused_in result ≡ refusal_by (keys_of roster.now) words.now }
     ensures read { IfOk result (λ r. r.words.now ≡ words.now) }
 {
     let Some(groups) = Record::read(words) else {
@@ -66,28 +66,19 @@ fn check(roster: Roster, words: &[u64]) -> Result<Record<'_>, Refusal>
     Ok(groups)
 }
 
-// Notes what a record abandons, and answers how many entries were rebuilt. Group by group: an owed entry takes the shard's name, any
-// other is rebuilt and put in. The running count stops at the largest word.
-pub fn record_abandonment(mut ledger: Ledger, words: &[u64]) -> Done
-    requires { Held ledger }
-    ensures { Meets (after_abandonment words.now (contents ledger)) [] [] result }
+// What a record abandons noted in a ledger that is lent, as the call and a bundle's item do it. Group by group: an owed entry takes the
+// shard's name, any other is rebuilt and put in. The running count stops at the largest word.
+pub fn note_abandonment(ledger: &mut Ledger, words: &[u64]) -> Result<[u64; 3], Refusal>
+    requires { Held ledger.old }
+    ensures { Meets (after_abandonment words.now (contents ledger.old)) [] [] (saying result ledger.new) }
 {
-    let groups = match check(ledger.roster, words) {
-        Ok(r) => r,
-        Err(refusal) => {
-            return Done {
-                said: Err(refusal),
-                ledger,
-            };
-        }
-    };
+    let groups = check(&ledger.roster, words)?;
     let shard = groups.shard();
     let mut at = groups.reaches_at();
     let mut rebuilt: u64 = 0;
     for i in 0..groups.len() {
-        let e = groups.group(i, at);
-        at += groups.reach_at(i);
-        match ledger.roster.find(e.tx) {
+        let tx = groups.transaction(i);
+        match ledger.roster.find(tx) {
             Some(k) => {
                 let slot = ledger.roster.slots[k];
                 let old = ledger.entries[slot];
@@ -95,15 +86,22 @@ pub fn record_abandonment(mut ledger: Ledger, words: &[u64]) -> Done
             }
             None => {
                 let slot = ledger.roster.slots[ledger.roster.len];
-                ledger.roster = ledger.roster.insert_at(ledger.roster.rank(e.tx), e.tx);
-                ledger.entries[slot] = e;
+                ledger.roster = ledger.roster.insert_at(ledger.roster.rank(tx), tx);
+                ledger.entries[slot] = groups.group(i, at);
                 rebuilt += 1;
             }
         }
+        at += groups.reach_at(i);
     }
     ledger.rebuilt = ledger.rebuilt.saturating_add(rebuilt);
-    Done {
-        said: Ok([rebuilt, 0, 0]),
-        ledger,
-    }
+    Ok([rebuilt, 0, 0])
+}
+
+// Notes what a record abandons, and answers how many entries were rebuilt.
+pub fn record_abandonment(mut ledger: Ledger, words: &[u64]) -> Done
+    requires { Held ledger }
+    ensures { Meets (after_abandonment words.now (contents ledger)) [] [] result }
+{
+    let said = note_abandonment(&mut ledger, words);
+    Done { said, ledger }
 }

@@ -6,7 +6,7 @@ ghost use Rattle.rules.specs.Calls.{after_finalization};
 ghost use Rattle.rules.specs.Words.{deciding};
 ghost use Rattle.entry.specs.Entry.{plain_entry, plain_part};
 ghost use Rattle.ledger.specs.Contents.{Held, contents};
-ghost use Rattle.ledger.specs.Meets.{Meets};
+ghost use Rattle.ledger.specs.Meets.{Meets, saying};
 ghost use Rattle.batches.specs.Rulings.{ruled_by, ruled_on};
 ghost use Rattle.words.specs.Lines.{plain_line};
 ghost use Rattle.types.specs.Transactions.{number_of};
@@ -55,31 +55,29 @@ fn is_open(finalization: Finalization<'_>, tx: Transaction, part: Part) -> bool
 }
 
 // Whether it is a core with an owed edge from local.
-fn is_owing(e: Entry, local: Shard) -> bool
-    ensures { result ≡ is_core (plain_entry e).part && owes local.0 (plain_entry e).terms }
+fn is_owing(e: &Entry, local: Shard) -> bool
+    ensures { result ≡ is_core (plain_entry e.now).part && owes local.0 (plain_entry e.now).terms }
 {
     e.part.is_core() && e.owes(local)
 }
 
 // What a line does with its transaction's entry.
-fn rule(finalization: Finalization<'_>, line: Line, e: Entry, local: Shard) -> Ruling
-    ensures { result ≡ ruled_on local.0 (deciding finalization.entry.words.now) (plain_line line) (plain_entry e) }
+fn rule(finalization: Finalization<'_>, line: Line, e: &Entry, local: Shard) -> Ruling
+    ensures { result ≡ ruled_on local.0 (deciding finalization.entry.words.now) (plain_line line) (plain_entry e.now) }
 {
     let open = is_open(finalization, line.tx, e.part);
     let owing = is_owing(e, local);
     decide(line.code, open, owing)
 }
 
-// Line by line, skips, turns to remainder or releases the entry that the line names, and answers how many were released.
-pub fn release_resolved(mut ledger: Ledger, words: &[u64]) -> Done
-    requires { Held ledger }
-    ensures { Meets (after_finalization words.now (contents ledger)) [] [] result }
+// What verdicts resolve, in a ledger that is lent, as the call and a bundle's item do it: line by line, skips, turns to remainder or
+// releases the entry that the line names.
+pub fn resolve_lines(ledger: &mut Ledger, words: &[u64]) -> Result<[u64; 3], Refusal>
+    requires { Held ledger.old }
+    ensures { Meets (after_finalization words.now (contents ledger.old)) [] [] (saying result ledger.new) }
 {
     let Some(finalization) = Finalization::read(words) else {
-        return Done {
-            said: Err(Refusal::Malformed),
-            ledger,
-        };
+        return Err(Refusal::Malformed);
     };
     let mut released: u64 = 0;
     for i in 0..finalization.len() {
@@ -89,7 +87,7 @@ pub fn release_resolved(mut ledger: Ledger, words: &[u64]) -> Done
         };
         let slot = ledger.roster.slots[k];
         let e = ledger.entries[slot];
-        match rule(finalization, line, e, ledger.local) {
+        match rule(finalization, line, &e, ledger.local) {
             Ruling::Skip => {}
             Ruling::Resolve => {
                 ledger.entries[slot] = e.resolve();
@@ -102,8 +100,14 @@ pub fn release_resolved(mut ledger: Ledger, words: &[u64]) -> Done
             Ruling::Refused => {} // never: the words are formed
         }
     }
-    Done {
-        said: Ok([released, 0, 0]),
-        ledger,
-    }
+    Ok([released, 0, 0])
+}
+
+// Resolves what a finalization's lines say, and answers how many entries were released.
+pub fn release_resolved(mut ledger: Ledger, words: &[u64]) -> Done
+    requires { Held ledger }
+    ensures { Meets (after_finalization words.now (contents ledger)) [] [] result }
+{
+    let said = resolve_lines(&mut ledger, words);
+    Done { said, ledger }
 }

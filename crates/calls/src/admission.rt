@@ -3,7 +3,7 @@ ghost use Rattle.std.specs.Prelude.{◌≡◌, [], IfOk};
 ghost use Rattle.rules.specs.Calls.{after_admission};
 ghost use Rattle.store.specs.Issuers.{Holds};
 ghost use Rattle.ledger.specs.Contents.{Held, contents};
-ghost use Rattle.ledger.specs.Meets.{Meets};
+ghost use Rattle.ledger.specs.Meets.{Meets, saying};
 ghost use Rattle.types.specs.Refusals.{refused_in};
 ghost use Rattle.calls.specs.Naming.{Nameable, with_pairs};
 ghost use Rattle.calls.specs.Refusals.{words_refusal};
@@ -16,16 +16,16 @@ use types::{Shard, record_key};
 use words::admission::Admission;
 
 // The entry named under each record that it issued, from its last edge to its first; by place, since two arrays are gone through backwards.
-fn name_issued(mut issuers: Issuers, e: Entry, local: Shard) -> Issuers
-    requires { Nameable issuers e local.0 }
-    ensures { Holds (with_pairs local.0 e issuers) result }
+// The index is lent, so that nothing of it is copied.
+fn name_issued(issuers: &mut Issuers, e: &Entry, local: Shard)
+    requires { Nameable issuers.old e.now local.0 }
+    ensures { Holds (with_pairs local.0 e.now issuers.old) issuers.new }
 {
     for i in (0..e.edges_len as usize).rev() {
         if e.froms[i] == local.0 {
             issuers.name(record_key(e.ids[i]), e.tx);
         }
     }
-    issuers
 }
 
 // The words of an admission, by the table.
@@ -45,42 +45,34 @@ fn check(words: &[u64]) -> Result<Admission<'_>, Refusal>
     Ok(admission)
 }
 
+// A transaction taken in, in a ledger that is lent, as the call and a bundle's item do it.
+pub fn take_in(ledger: &mut Ledger, words: &[u64]) -> Result<[u64; 3], Refusal>
+    requires { Held ledger.old }
+    ensures { Meets (after_admission words.now (contents ledger.old)) [] [] (saying result ledger.new) }
+{
+    let admission = check(words)?;
+    let tx = admission.transaction();
+    let None = ledger.roster.find(tx) else {
+        return Ok([0; 3]);
+    };
+    let len = ledger.roster.len;
+    let is_full = 48 <= len;
+    if is_full {
+        return Err(Refusal::EntriesFull);
+    }
+    let e = admission.entry(ledger.local);
+    let slot = ledger.roster.slots[len];
+    ledger.roster = ledger.roster.insert_at(ledger.roster.rank(tx), tx);
+    name_issued(&mut ledger.issuers, &e, ledger.local);
+    ledger.entries[slot] = e;
+    Ok([1, 0, 0])
+}
+
 // Takes a transaction in, and answers 1; one that is owed already is skipped and answers 0.
 pub fn register_committed(mut ledger: Ledger, words: &[u64]) -> Done
     requires { Held ledger }
     ensures { Meets (after_admission words.now (contents ledger)) [] [] result }
 {
-    let admission = match check(words) {
-        Ok(a) => a,
-        Err(refusal) => {
-            return Done {
-                said: Err(refusal),
-                ledger,
-            };
-        }
-    };
-    let tx = admission.transaction();
-    let None = ledger.roster.find(tx) else {
-        return Done {
-            said: Ok([0; 3]),
-            ledger,
-        };
-    };
-    let len = ledger.roster.len;
-    let is_full = 48 <= len;
-    if is_full {
-        return Done {
-            said: Err(Refusal::EntriesFull),
-            ledger,
-        };
-    }
-    let e = admission.entry(ledger.local);
-    let slot = ledger.roster.slots[len];
-    ledger.roster = ledger.roster.insert_at(ledger.roster.rank(tx), tx);
-    ledger.issuers = name_issued(ledger.issuers, e, ledger.local);
-    ledger.entries[slot] = e;
-    Done {
-        said: Ok([1, 0, 0]),
-        ledger,
-    }
+    let said = take_in(&mut ledger, words);
+    Done { said, ledger }
 }

@@ -3,7 +3,7 @@ ghost use Rattle.std.specs.Prelude.{[]};
 ghost use Rattle.rules.specs.Calls.{after_certify, after_absence};
 ghost use Rattle.entry.specs.Entry.{absence};
 ghost use Rattle.ledger.specs.Contents.{Held, contents};
-ghost use Rattle.ledger.specs.Meets.{Meets};
+ghost use Rattle.ledger.specs.Meets.{Meets, saying};
 ghost use Rattle.types.specs.Transactions.{number_of};
 
 use entry::Certificate;
@@ -33,40 +33,39 @@ pub fn certify(mut ledger: Ledger, tx: Transaction, code: u64) -> Done
     }
 }
 
+// A sibling's cell read absent, in a ledger that is lent, as the call and a bundle's item do it.
+pub fn note_absence(
+    ledger: &mut Ledger,
+    tx: Transaction,
+    shard: Shard,
+    key: u64,
+) -> Result<[u64; 3], Refusal>
+    requires { Held ledger.old }
+    ensures { Meets (after_absence (number_of tx) (absence shard.0 key) (contents ledger.old)) [] [] (saying result ledger.new) }
+{
+    if !is_shard(shard.0) {
+        return Err(Refusal::NoShard);
+    }
+    let Some(slot) = ledger.roster.slot_of(tx) else {
+        return Ok([0; 3]);
+    };
+    let e = ledger.entries[slot];
+    if e.is_read(shard, key) {
+        return Ok([0; 3]);
+    }
+    let is_full = 8 <= e.absences_len;
+    if is_full {
+        return Err(Refusal::AbsencesFull);
+    }
+    ledger.entries[slot] = e.with_absence(shard, key);
+    Ok([1, 0, 0])
+}
+
 // A sibling's cell was read absent: answers whether that is new.
 pub fn record_absence(mut ledger: Ledger, tx: Transaction, shard: Shard, key: u64) -> Done
     requires { Held ledger }
     ensures { Meets (after_absence (number_of tx) (absence shard.0 key) (contents ledger)) [] [] result }
 {
-    if !is_shard(shard.0) {
-        return Done {
-            said: Err(Refusal::NoShard),
-            ledger,
-        };
-    }
-    let Some(slot) = ledger.roster.slot_of(tx) else {
-        return Done {
-            said: Ok([0; 3]),
-            ledger,
-        };
-    };
-    let e = ledger.entries[slot];
-    if e.is_read(shard, key) {
-        return Done {
-            said: Ok([0; 3]),
-            ledger,
-        };
-    }
-    let is_full = 8 <= e.absences_len;
-    if is_full {
-        return Done {
-            said: Err(Refusal::AbsencesFull),
-            ledger,
-        };
-    }
-    ledger.entries[slot] = e.with_absence(shard, key);
-    Done {
-        said: Ok([1, 0, 0]),
-        ledger,
-    }
+    let said = note_absence(&mut ledger, tx, shard, key);
+    Done { said, ledger }
 }

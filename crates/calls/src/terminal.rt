@@ -5,7 +5,7 @@ ghost use Rattle.rules.specs.Plain.{shard_of};
 ghost use Rattle.rules.specs.Calls.{after_terminal, after_stamp, stamp_refusal};
 ghost use Rattle.store.specs.Departures.{Holds, on_file, room_for};
 ghost use Rattle.ledger.specs.Contents.{Held, contents};
-ghost use Rattle.ledger.specs.Meets.{Meets};
+ghost use Rattle.ledger.specs.Meets.{Meets, saying};
 ghost use Rattle.types.specs.Refusals.{refused_in};
 ghost use Rattle.calls.specs.Terminals.{is_until, words_refusal, stamp_in, filed_with};
 
@@ -67,6 +67,26 @@ fn filed(departures: Departures, shard: Shard, cut: Time, stamp: Option<Time>) -
     }
 }
 
+// A terminal, in a ledger that is lent, as the call and a bundle's item do it.
+pub fn file_terminal(
+    ledger: &mut Ledger,
+    shard: Shard,
+    cut: Time,
+    stamped: u64,
+    until: Time,
+) -> Result<[u64; 3], Refusal>
+    requires { Held ledger.old }
+    ensures { Meets (after_terminal shard.0 cut.0 stamped until.0 (contents ledger.old)) [] [] (saying result ledger.new) }
+{
+    check_terminal(shard, cut, stamped, until)?;
+    if !has_room(ledger.departures, shard) {
+        return Err(Refusal::DeparturesFull);
+    }
+    let stamp = stamp_in(stamped, until);
+    ledger.departures = filed(ledger.departures, shard, cut, stamp);
+    Ok([0; 3])
+}
+
 // The shard departed at its cut, stamped or not yet: the first cut holds, and so does the first stamp.
 pub fn record_terminal(
     mut ledger: Ledger,
@@ -78,24 +98,8 @@ pub fn record_terminal(
     requires { Held ledger }
     ensures { Meets (after_terminal shard.0 cut.0 stamped until.0 (contents ledger)) [] [] result }
 {
-    if let Err(refusal) = check_terminal(shard, cut, stamped, until) {
-        return Done {
-            said: Err(refusal),
-            ledger,
-        };
-    }
-    if !has_room(ledger.departures, shard) {
-        return Done {
-            said: Err(Refusal::DeparturesFull),
-            ledger,
-        };
-    }
-    let stamp = stamp_in(stamped, until);
-    ledger.departures = filed(ledger.departures, shard, cut, stamp);
-    Done {
-        said: Ok([0; 3]),
-        ledger,
-    }
+    let said = file_terminal(&mut ledger, shard, cut, stamped, until);
+    Done { said, ledger }
 }
 
 // The words of a stamp, by the table.

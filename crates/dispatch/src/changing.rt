@@ -5,6 +5,7 @@ ghost use Rattle.dispatch.specs.Changing.{call_of, Turned};
 
 use batches::abandonment::record_abandonment;
 use batches::finalization::release_resolved;
+use bundles::bundle;
 use calls::admission::register_committed;
 use calls::certificate::{certify, record_absence};
 use calls::release::{fated, forget};
@@ -66,6 +67,7 @@ pub fn apply(
             10 => done = forget(done.ledger, tx),
             11 => done = record_terminal(done.ledger, Shard(a), Time(b), c, Time(d)),
             12 => done = stamp_terminal(done.ledger, Shard(a), Time(b)),
+            14 => done = bundle(done.ledger, words),
             _ => done = prune(done.ledger, Time(a), lent),
         }
     }

@@ -8,7 +8,7 @@ use Rattle.rules.specs.Good.{Good}
 use Rattle.rules.specs.Outcome.{Outcome, done, unless}
 use Rattle.std.specs.Prelude.{Ok}
 use Rattle.types.specs.declared.refusal.Refusal.{Refusal}
-use Rattle.types.specs.declared.refusal.Refusal.TheVariants.{NoLocal, NoSpan, NoTime, NoShard, Malformed, EntriesFull, AbsencesFull, DeparturesFull, ListShort}
+use Rattle.types.specs.declared.refusal.Refusal.TheVariants.{NoLocal, NoSpan, NoTime, NoShard, Malformed, EntriesFull, AbsencesFull, DeparturesFull, ListShort, UnknownKind, NoBundle}
 use Rattle.types.specs.Refusals.{refusal_number}
 use Rattle.ledger.specs.declared.Ledger.{Ledger}
 use Rattle.ledger.specs.declared.Done.{Done}
@@ -27,6 +27,8 @@ numbered EntriesFull = (5, refl)
 numbered AbsencesFull = (6, refl)
 numbered DeparturesFull = (7, refl)
 numbered ListShort = (8, refl)
+numbered UnknownKind = (9, refl)
+numbered NoBundle = (10, refl)
 
 -- the table gives a refusal: it is said, and nothing else is done
 pub refuses : (r : Refusal) (l : Ledger) (lent : List ℕ) (m : ℕ) (o : Outcome) → Held l → m ≡ refusal_number r → Meets (unless m (contents l) o) lent lent (says_no r l)

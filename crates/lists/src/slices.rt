@@ -1,6 +1,6 @@
 // Slices of words: a word, a part, tests of each number, sums and copies. Most are one call of the library's, with the rules' own word for it
 // in the contract.
-ghost use Rattle.std.specs.Prelude.{◌≡◌, true, ◌+◌, ◌≤◌, leb, length, take, get_or};
+ghost use Rattle.std.specs.Prelude.{◌≡◌, true, ◌+◌, ◌≤◌, eqb, leb, length, take, get_or};
 ghost use Rattle.lists.specs.Lists.{all, has, ascending, total, self, part, cut};
 
 // The word at a place, 0 past the end.
@@ -40,6 +40,20 @@ pub fn total(s: &[u64]) -> u64
     ensures { result ≡ total self s.now }
 {
     s.iter().sum()
+}
+
+// Whether the numbers, any words, add up to n: nothing wraps.
+pub fn adds_up(s: &[u64], n: usize) -> bool
+    ensures { result ≡ eqb n (total self s.now) }
+{
+    let mut rest = n as u64;
+    for k in s {
+        let Some(less) = rest.checked_sub(*k) else {
+            return false;
+        };
+        rest = less;
+    }
+    rest == 0
 }
 
 // Whether each number is above the one before it.

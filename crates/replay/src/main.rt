@@ -8,7 +8,7 @@ mod reading;
 mod replies;
 
 use calls::making;
-use script::calls::{DUMP, NEW, PRUNE};
+use script::calls::{BUNDLE, DUMP, NEW};
 use script::{Line, Reader, Writer};
 use types::Shard;
 
@@ -18,8 +18,8 @@ use types::Shard;
 fn main(rt: HostRuntime) {
     let mut reader = Reader::new(rt.stdin());
     let mut writer = Writer::new(rt.stdout());
-    let mut numbers = [0; 2048];
-    let mut lent = [0; 4096];
+    let mut numbers = [0; 8192];
+    let mut lent = [0; 8192];
     let mut ledger = making::new(Shard(0), 0, 0, 0).ledger;
     let mut repeat = None;
     // Lines are counted for the answer to one that is malformed. Every loop must end, and no script has 2^64 lines.
@@ -40,10 +40,10 @@ fn main(rt: HostRuntime) {
         let times = repeat.take().unwrap_or(1);
         let words = &numbers[..call.count];
         let list = &mut lent[..call.lent];
-        // By the order of the table: the changing calls up to `prune`, the readings up to `dump`, of which `put_reply` writes what is held.
+        // By the order of the table: the changing calls up to `bundle`, the readings up to `dump`, of which `put_reply` writes what is held.
         let reply = match code.place {
             NEW => changing::renew(&mut ledger, words, times),
-            ..=PRUNE => changing::apply(&mut ledger, code, words, list, times),
+            ..=BUNDLE => changing::apply(&mut ledger, code, words, list, times),
             ..DUMP => reading::ask(&ledger, code, words, list, times).map(|answer| [answer, 0, 0]),
             _ => Ok([0; 3]),
         };

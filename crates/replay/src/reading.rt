@@ -5,11 +5,11 @@ ghost use Rattle.replay.specs.Lines.{Asked};
 use dispatch::reading;
 use ledger::Ledger;
 use script::FILL;
-use script::calls::{Code, PRUNE};
+use script::calls::{BUNDLE, Code};
 use types::refusal::Refusal;
 
 // The reading of a code as often as is said, and once at least: each time of the same ledger and on the list filled anew. A
-// kind says how far behind `prune` the reading stands in the table.
+// kind says how far behind `bundle` the reading stands in the table.
 pub fn ask(
     ledger: &Ledger,
     code: Code,
@@ -20,7 +20,7 @@ pub fn ask(
     requires { Held ledger.now }
     ensures { Asked code.place words.now ledger.now list.old list.new result }
 {
-    let kind = code.place.saturating_sub(PRUNE) as u64;
+    let kind = code.place.saturating_sub(BUNDLE) as u64;
     let mut answer = Ok(0);
     for turn in 0..times.max(1) {
         list.fill(FILL);

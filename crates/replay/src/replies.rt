@@ -19,6 +19,7 @@ fn answers_of(code: Code) -> usize
         codes::NEW | codes::CERTIFY | codes::SETTLED | codes::RETURNED => 0,
         codes::RECORD_TERMINAL | codes::STAMP_TERMINAL | codes::DUMP => 0,
         codes::PRUNE => 2,
+        codes::BUNDLE => 3,
         _ => 1,
     }
 }

@@ -21,7 +21,9 @@ pub const STAMP_TERMINAL: usize = 13;
 
 pub const PRUNE: usize = 14;
 
-pub const DUMP: usize = 32;
+pub const BUNDLE: usize = 15;
+
+pub const DUMP: usize = 33;
 
 // A call's place in the table.
 #[derive(Clone, Copy)]
@@ -35,7 +37,7 @@ pub struct Code {
 struct Row(&'static [u8], Option<usize>, Option<usize>);
 
 // How many calls there are.
-const CODES: usize = 33;
+const CODES: usize = 34;
 
 const ROWS: [Row; CODES] = [
     Row(b"repeat", Some(1), None),
@@ -53,6 +55,7 @@ const ROWS: [Row; CODES] = [
     Row(b"record_terminal", Some(4), None),
     Row(b"stamp_terminal", Some(2), None),
     Row(b"prune", Some(1), Some(3)),
+    Row(b"bundle", None, None),
     Row(b"questions", Some(0), Some(5)),
     Row(b"open_at", Some(6), None),
     Row(b"answers", Some(7), None),

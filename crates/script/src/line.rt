@@ -21,8 +21,8 @@ pub struct Call {
     pub count: usize,
     pub lent: usize,
     pub ghost no_repeat: { 0 < code.place },
-    pub ghost numbers: { count ≤ 2048 },
-    pub ghost words: { lent ≤ 4096 },
+    pub ghost numbers: { count ≤ 8192 },
+    pub ghost words: { lent ≤ 8192 },
     pub ghost takes: { Takes code.place count },
     pub ghost none: { takes_list code.place ≡ false → lent ≡ 0 },
 }

@@ -1,9 +1,9 @@
-// Lines of an input, by way of a buffer of 65,536 bytes.
+// Lines of an input, by way of a buffer of 196,608 bytes.
 //
 // A last line without a newline is a line. A read that fails counts as the end of the input. A line that
 // does not fit is made shorter where that does not change its meaning: a comment is cut to its first
-// byte, and a zero that leads a number is dropped. So a line that still does not fit is malformed: 2,048
-// numbers of 20 digits, a name and a lent count take fewer than 43,100 bytes.
+// byte, and a zero that leads a number is dropped. So a line that still does not fit is malformed: 8,192
+// numbers of 20 digits, a name and a lent count take fewer than 172,100 bytes.
 ghost use Rattle.std.specs.Prelude.{◌≤◌, ◌<◌, ◌≡◌, length, IfSome, IfOk};
 
 use crate::numbers::is_digit;
@@ -26,12 +26,12 @@ enum State {
 #[derive(Drop)]
 pub struct Reader<R> {
     input: R,
-    buf: [u8; 65536],
+    buf: [u8; 196608],
     next: usize,
     filled: usize,
     state: State,
     ghost rest: { next ≤ filled },
-    ghost room: { filled ≤ 65536 },
+    ghost room: { filled ≤ 196608 },
 }
 
 impl<R: Read> Reader<R> {
@@ -39,7 +39,7 @@ impl<R: Read> Reader<R> {
     pub fn new(input: R) -> Self {
         Reader {
             input,
-            buf: [0; 65536],
+            buf: [0; 196608],
             next: 0,
             filled: 0,
             state: State::Reading,
@@ -59,7 +59,7 @@ impl<R: Read> Reader<R> {
 
     // Where the next line starts and ends.
     fn find(&mut self) -> Option<Result<(usize, usize), TooLong>>
-        ensures { IfSome result (λ found. IfOk found (λ place. (place.0 ≤ place.1) × (place.1 ≤ 65536))) }
+        ensures { IfSome result (λ found. IfOk found (λ place. (place.0 ≤ place.1) × (place.1 ≤ 196608))) }
     {
         // Every loop must end; a remark may go on as long as the input does, which is not read 2^64 times.
         for _ in 0..u64::MAX {
@@ -79,7 +79,7 @@ impl<R: Read> Reader<R> {
 
     // What is left at the end of the input: a line where there is anything.
     fn last(&mut self) -> Option<Result<(usize, usize), TooLong>>
-        ensures { IfSome result (λ found. IfOk found (λ place. (place.0 ≤ place.1) × (place.1 ≤ 65536))) }
+        ensures { IfSome result (λ found. IfOk found (λ place. (place.0 ≤ place.1) × (place.1 ≤ 196608))) }
     {
         let start = self.next;
         self.next = self.filled;

@@ -1,7 +1,7 @@
 // A line of a script taken apart: its call, its numbers, and how long a list it lends.
 //
-// line = name { " " number } [ " lent " number ]. Zeros may lead a number. A lent count is 0 to 4,096, comes last
-// and is not among the 2,048 numbers. `repeat` has one number from 1 and no lent. To a call that
+// line = name { " " number } [ " lent " number ]. Zeros may lead a number. A lent count is 0 to 8,192, comes last
+// and is not among the 8,192 numbers. `repeat` has one number from 1 and no lent. To a call that
 // takes no list nothing is lent.
 ghost use Rattle.std.specs.Prelude.{◌≡◌, IsTrue, IfSome, MatchResult, false, take};
 ghost use Rattle.script.specs.Calls.{Takes};
@@ -22,7 +22,7 @@ struct Tail {
 }
 
 // Takes the line that `next_line` found apart; its numbers go to the front of numbers.
-pub fn parse(found: Result<&[u8], TooLong>, numbers: &mut [u64; 2048]) -> Line
+pub fn parse(found: Result<&[u8], TooLong>, numbers: &mut [u64; 8192]) -> Line
     ensures { MatchResult found.entry (λ line. Says line.now numbers.new result) (λ _. result ≡ Line.Malformed) }
 {
     match found {
@@ -32,7 +32,7 @@ pub fn parse(found: Result<&[u8], TooLong>, numbers: &mut [u64; 2048]) -> Line
 }
 
 // The same of a line that fits.
-pub fn parse_line(line: &[u8], numbers: &mut [u64; 2048]) -> Line
+pub fn parse_line(line: &[u8], numbers: &mut [u64; 8192]) -> Line
     ensures { Says line.now numbers.new result }
 {
     if is_remark(line) {
@@ -52,7 +52,7 @@ fn is_remark(line: &[u8]) -> bool
 }
 
 // What a line that is no remark has done, where it is well formed.
-fn call_in(line: &[u8], numbers: &mut [u64; 2048]) -> Option<Line>
+fn call_in(line: &[u8], numbers: &mut [u64; 8192]) -> Option<Line>
     requires { is_remark line.now ≡ false }
     ensures { IfSome result (Says line.now numbers.new) }
 {
@@ -103,7 +103,7 @@ fn takes(code: Code, count: usize) -> bool
 }
 
 // What stands behind a name, from its end on: numbers, and the lent count.
-fn tail_of(text: &[u8], numbers: &mut [u64; 2048]) -> Option<Tail>
+fn tail_of(text: &[u8], numbers: &mut [u64; 8192]) -> Option<Tail>
     ensures value { result ≡ tail_of 0 (behind text.now) }
     ensures numbers_after { IfSome result (λ t. take t.count numbers.new ≡ numbers_of (behind text.now)) }
 {
@@ -116,7 +116,7 @@ fn tail_of(text: &[u8], numbers: &mut [u64; 2048]) -> Option<Tail>
             return with_lent(next, count);
         }
         let n = numbers::value_of(token)?;
-        if count >= 2048 {
+        if count >= 8192 {
             return None;
         }
         numbers[count] = n;
@@ -141,7 +141,7 @@ fn with_lent(text: &[u8], count: usize) -> Option<Tail>
 fn lent_number(lent: u64, count: usize) -> Option<Tail>
     ensures { result ≡ lent_number count lent }
 {
-    if lent > 4096 {
+    if lent > 8192 {
         return None;
     }
     Some(Tail {

@@ -110,26 +110,25 @@ impl Issuers {
     }
 
     // Those whose transaction passes, in their order.
-    pub fn retain<F: Fn(Transaction) -> bool>(self, stays: F) -> Issuers
+    pub fn retain<F: Fn(Transaction) -> bool>(&mut self, stays: F)
         requires { (t : _) → F.pre stays t }
-        ensures { Retains (λ t. FnReturns F.Fn stays (t, tt)) self result }
+        ensures { Retains (λ t. FnReturns F.Fn stays (t, tt)) self.old self.new }
     {
         let mut stay = [false; 384];
+        let n = self.len;
         // By place: each flag stands beside its transaction.
-        for i in 0..self.len {
+        for i in 0..n {
             let tx = Transaction(self.transactions[i]);
             stay[i] = stays(tx);
         }
-        let mut x = self;
-        fronts::retain(&mut x.records, &stay[..self.len]);
-        x.len = fronts::retain(&mut x.transactions, &stay[..self.len]);
-        x
+        fronts::retain(&mut self.records, &stay[..n]);
+        self.len = fronts::retain(&mut self.transactions, &stay[..n]);
     }
 
-    // Without the pairs of a transaction.
-    pub fn without(self, t: Transaction) -> Issuers
-        ensures { Holds (keep (is_not (number_of t)) (pairs_in self)) result }
+    // The pairs of a transaction taken out.
+    pub fn unname(&mut self, t: Transaction)
+        ensures { Holds (keep (is_not (number_of t)) (pairs_in self.old)) self.new }
     {
-        self.retain(|other| other != t)
+        self.retain(|other| other != t);
     }
 }

@@ -32,5 +32,7 @@ pub fn without_dropped(issuers: Issuers, roster: Roster, stay: [bool; 48]) -> Is
     if gone.len == 0 {
         return issuers;
     }
-    issuers.retain(|tx| !tx.is_among(gone.as_slice()))
+    let mut x = issuers;
+    x.retain(|tx| !tx.is_among(gone.as_slice()));
+    x
 }

@@ -41,15 +41,15 @@ impl Roster {
     }
 
     // Where the transaction stands.
-    pub fn find(self, tx: Transaction) -> Option<usize>
-        ensures { result ≡ place (is (number_of tx)) 0 (keys_of self) }
+    pub fn find(&self, tx: Transaction) -> Option<usize>
+        ensures { result ≡ place (is (number_of tx)) 0 (keys_of self.now) }
     {
         self.keys[..self.len].iter().position(|k| *k == tx.0)
     }
 
     // The slot in which the transaction's entry lies.
-    pub fn slot_of(self, tx: Transaction) -> Option<usize>
-        ensures { SlotOf self (number_of tx) result }
+    pub fn slot_of(&self, tx: Transaction) -> Option<usize>
+        ensures { SlotOf self.now (number_of tx) result }
     {
         let Some(k) = self.find(tx) else {
             return None;
@@ -58,38 +58,36 @@ impl Roster {
     }
 
     // How many stand before the transaction: where it is to be put in.
-    pub fn rank(self, tx: Transaction) -> usize
-        ensures { result ≡ rank (below (number_of tx)) (keys_of self) }
+    pub fn rank(&self, tx: Transaction) -> usize
+        ensures { result ≡ rank (below (number_of tx)) (keys_of self.now) }
     {
         sorted::rank(&self.keys[..self.len], |k| *k < tx.0)
     }
 
-    // The transaction put in at a place, with the first slot that is not in use.
-    pub fn insert_at(self, k: usize, tx: Transaction) -> Roster
-        requires { (k ≤ self.len) × (self.len < 48) }
-        ensures { Inserted self k (number_of tx) result }
+    // The transaction put in at a place, with the first slot that is not in use. This and letting go are done in place, so that nothing is
+    // copied.
+    pub fn insert_at(&mut self, k: usize, tx: Transaction)
+        requires { (k ≤ self.old.len) × (self.old.len < 48) }
+        ensures { Inserted self.old k (number_of tx) self.new }
     {
-        let mut r = self;
-        let slot = r.slots[r.len];
-        fronts::insert_at(&mut r.keys, self.len, k, tx.0);
-        fronts::insert_at(&mut r.slots, self.len, k, slot);
-        r.len += 1;
-        r
+        let n = self.len;
+        let slot = self.slots[n];
+        fronts::insert_at(&mut self.keys, n, k, tx.0);
+        fronts::insert_at(&mut self.slots, n, k, slot);
+        self.len = n + 1;
     }
 
     // What stands at a place let go: its slot goes behind those in use.
-    pub fn remove_at(self, k: usize) -> Roster
-        requires { k < self.len }
-        ensures { Removed self k result }
+    pub fn remove_at(&mut self, k: usize)
+        requires { k < self.old.len }
+        ensures { Removed self.old k self.new }
     {
-        let mut r = self;
-        let m = r.len - 1;
-        let slot = r.slots[k];
-        fronts::remove_at(&mut r.keys, self.len, k);
-        fronts::remove_at(&mut r.slots, self.len, k);
-        r.slots[m] = slot;
-        r.len = m;
-        r
+        let n = self.len;
+        let slot = self.slots[k];
+        fronts::remove_at(&mut self.keys, n, k);
+        fronts::remove_at(&mut self.slots, n, k);
+        self.slots[n - 1] = slot;
+        self.len = n - 1;
     }
 
     // Those whose flag is up, in their order; the slots of the others go behind them.

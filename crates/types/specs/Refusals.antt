@@ -2,7 +2,7 @@
 use Rattle.std.specs.Prelude.{ℕ, Ok, Err}
 use Rattle.std.specs.Prelude.{Result}
 use Rattle.types.specs.declared.refusal.Refusal.{Refusal}
-use Rattle.types.specs.declared.refusal.Refusal.TheVariants.{NoLocal, NoSpan, NoTime, NoShard, Malformed, EntriesFull, AbsencesFull, DeparturesFull, ListShort}
+use Rattle.types.specs.declared.refusal.Refusal.TheVariants.{NoLocal, NoSpan, NoTime, NoShard, Malformed, EntriesFull, AbsencesFull, DeparturesFull, ListShort, UnknownKind, NoBundle}
 
 abbrev pub refusal_number : Refusal → ℕ
 refusal_number NoLocal = 1
@@ -14,6 +14,8 @@ refusal_number EntriesFull = 6
 refusal_number AbsencesFull = 7
 refusal_number DeparturesFull = 8
 refusal_number ListShort = 9
+refusal_number UnknownKind = 10
+refusal_number NoBundle = 11
 
 abbrev pub refused_in : {A : Type 0} → Result A Refusal → ℕ
 refused_in (Ok x) = 0

@@ -17,6 +17,9 @@ pub enum Refusal {
     DeparturesFull = 8,
     // Writing: the lent list is too short.
     ListShort = 9,
+    // Reading a bundle: an item's kind is none of the five, or its words are no such number of items.
+    UnknownKind = 10,
+    NoBundle = 11,
 }
 
 impl Refusal {

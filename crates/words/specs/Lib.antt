@@ -1,3 +1,4 @@
 pub mod Admission
+pub mod Bundle
 pub mod Taken
 pub mod Lines

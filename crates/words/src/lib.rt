@@ -3,6 +3,7 @@
 #![tactic(auto)]
 
 pub mod admission;
+pub mod bundle;
 pub mod finalization;
 mod layout;
 pub mod record;

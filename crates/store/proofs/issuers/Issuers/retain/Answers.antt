@@ -33,7 +33,7 @@ kept x stay us vs k n h o p =
 pub loop-i-preserved : goal.loop-i-preserved
 loop-i-preserved g c =
     let l = c.loop-i in
-    let x = c.args.self in
+    let x = c.args.self.now in
     let size : length (pairs_in x) ≡ x.len = pairs-length x in
     let at = pairs-at pair x.records x.transactions x.len (omega (arith, x.room, x.lengths.0)) (omega (arith, x.room, x.lengths.1)) 0 0 (pair 0 0) l.i (omega arith) in (
       search rules,
@@ -44,23 +44,23 @@ loop-i-preserved g c =
 pub returns : goal.returns
 returns g c p is =
     let l = c.loop-i in
-    let x = c.args.self in
+    let x = c.args.self.now in
     let test = of_transaction p in
     let q : l.i ≡ x.len = omega arith in
     let e : take l.i (pairs_in x) ≡ pairs_in x = take_all l.i (pairs_in x) (omega (arith, pairs-length x)) in
     let f : take x.len l.stay ≡ map test (pairs_in x) = ap (λ m. take m l.stay) (sym q) ∙ l.invariant.1 p is ∙ ap (map test) e in
     record {
-      pairs = kept x l.stay _ _ _ _ (search rules) c.retain.ensures c.retain-2.ensures ∙ ap (λ m. keep_by m (pairs_in x)) f ∙ keep_by_test test (pairs_in x);
+      pairs = kept x l.stay _ _ _ _ (search rules) c.retain-self.ensures c.retain-self-2.ensures ∙ ap (λ m. keep_by m (pairs_in x)) f ∙ keep_by_test test (pairs_in x);
     }
 
-pub invariant_of-x-clause-rising : goal.invariant_of-x-clause-rising
-invariant_of-x-clause-rising g c =
-    let x = c.args.self in
+pub invariant_of-self-clause-rising : goal.invariant_of-self-clause-rising
+invariant_of-self-clause-rising g c =
+    let x = c.args.self.now in
     let stay = c.loop-i.stay in
-    subst (Ascending pair_key) (sym (kept x stay _ _ _ _ (search rules) c.retain.ensures c.retain-2.ensures)) (kept_rises pair_key (take x.len stay) (pairs_in x) x.rising)
+    subst (Ascending pair_key) (sym (kept x stay _ _ _ _ (search rules) c.retain-self.ensures c.retain-self-2.ensures)) (kept_rises pair_key (take x.len stay) (pairs_in x) x.rising)
 
-pub invariant_of-x-clause-words : goal.invariant_of-x-clause-words
-invariant_of-x-clause-words g c =
-    let x = c.args.self in
+pub invariant_of-self-clause-words : goal.invariant_of-self-clause-words
+invariant_of-self-clause-words g c =
+    let x = c.args.self.now in
     let stay = c.loop-i.stay in
-    subst (Every (λ t. t < 2 ^ 64)) (sym (flagged stay x.len _ _ _ (search rules) c.retain-2.ensures)) (every_kept (λ t. t < 2 ^ 64) (take x.len stay) (take x.len x.transactions) x.words)
+    subst (Every (λ t. t < 2 ^ 64)) (sym (flagged stay x.len _ _ _ (search rules) c.retain-self-2.ensures)) (every_kept (λ t. t < 2 ^ 64) (take x.len stay) (take x.len x.transactions) x.words)

@@ -11,6 +11,6 @@ use Rattle.store.proofs.roster.Roster.find.Goals as goal
 pub returns : goal.returns
 returns c =
     let test = is (number_of c.args.tx) in
-    let l = take c.args.self.len c.args.self.keys in
+    let l = take c.args.self.now.len c.args.self.now.keys in
     position_from_yields_List test _ _ _ c.position.ensures.ran (YieldsList-from_slice l cc) (λ x b q k. search (rules, tests))
     ∙ position_from-zero test l ∙ place_is test 0 l

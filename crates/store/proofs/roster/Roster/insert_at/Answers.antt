@@ -8,18 +8,18 @@ use Rattle.store.proofs.roster.Roster.insert_at.Goals as goal
 pub returns : goal.returns
 returns c = record { len = refl; keys = c.insert_at.ensures.front; slots = c.insert_at-2.ensures.front }
 
-pub invariant_of-r-clause-within : goal.invariant_of-r-clause-within
-invariant_of-r-clause-within c =
-    let r = c.args.self in
+pub invariant_of-self-clause-within : goal.invariant_of-self-clause-within
+invariant_of-self-clause-within c =
+    let r = c.args.self.now in
     let n = r.len in
     let slot = get_or r.slots n 0 in
     let within : Every (λ x. x < 48) (insert_at c.args.k slot (remove_at n r.slots)) =
     every_insert_at (λ x. x < 48) c.args.k slot (remove_at n r.slots) (every_at (λ x. x < 48) 0 n r.slots (omega (arith, r.lengths.1)) r.within) (every_remove_at (λ x. x < 48) n r.slots r.within) in
     rw (sym c.insert_at-2.ensures.whole) at within
 
-pub invariant_of-r-clause-distinct : goal.invariant_of-r-clause-distinct
-invariant_of-r-clause-distinct c =
-    let r = c.args.self in
+pub invariant_of-self-clause-distinct : goal.invariant_of-self-clause-distinct
+invariant_of-self-clause-distinct c =
+    let r = c.args.self.now in
     let n = r.len in
     let slot = get_or r.slots n 0 in
     let distinct : Distinct (insert_at c.args.k slot (remove_at n r.slots)) =

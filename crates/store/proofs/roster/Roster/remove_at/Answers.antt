@@ -6,7 +6,7 @@ use Rattle.store.proofs.roster.Roster.remove_at.Goals as goal
 
 pub returns : goal.returns
 returns c =
-    let r = c.args.self in
+    let r = c.args.self.now in
     let k = c.args.k in
     let m = r.len - 1 in
     let o = c.remove_at-2.ensures in
@@ -17,15 +17,15 @@ returns c =
       slots = take-set-le m b m (get_or r.slots k 0) (omega arith) ∙ o.front;
     }
 
-pub invariant_of-r-clause-within : goal.invariant_of-r-clause-within
-invariant_of-r-clause-within c =
-    let r = c.args.self in
+pub invariant_of-self-clause-within : goal.invariant_of-self-clause-within
+invariant_of-self-clause-within c =
+    let r = c.args.self.now in
     every_moved (λ x. x < 48) 0 r.slots c.remove_at-2.new.s (r.len - 1) c.args.k (omega arith) (omega arith) c.remove_at-2.ensures.whole r.within
 
-pub invariant_of-r-clause-distinct : goal.invariant_of-r-clause-distinct
-invariant_of-r-clause-distinct c =
-    let r = c.args.self in
+pub invariant_of-self-clause-distinct : goal.invariant_of-self-clause-distinct
+invariant_of-self-clause-distinct c =
+    let r = c.args.self.now in
     distinct_moved r.slots c.remove_at-2.new.s (r.len - 1) c.args.k (omega arith) (omega arith) c.remove_at-2.ensures.whole r.distinct
 
-pub invariant_of-r-clause-lengths : goal.invariant_of-r-clause-lengths
-invariant_of-r-clause-lengths c = (search rules, length-set c.remove_at-2.new.s (c.args.self.len - 1) (get_or c.args.self.slots c.args.k 0) ∙ c.remove_at-2.ensures.size ∙ c.args.self.lengths.1)
+pub invariant_of-self-clause-lengths : goal.invariant_of-self-clause-lengths
+invariant_of-self-clause-lengths c = (search rules, length-set c.remove_at-2.new.s (c.args.self.now.len - 1) (get_or c.args.self.now.slots c.args.k 0) ∙ c.remove_at-2.ensures.size ∙ c.args.self.now.lengths.1)

@@ -1,0 +1,102 @@
+// A bundle: what a block brings, handed over at once. Its items change the ledger in place, by rising kind; the first that is refused
+// refuses the bundle and undoes the rest.
+#![tactic(auto)]
+
+ghost use Rattle.std.specs.Prelude.{[]};
+ghost use Rattle.rules.specs.Calls.{after_bundle};
+ghost use Rattle.ledger.specs.Contents.{Held, contents};
+ghost use Rattle.ledger.specs.Meets.{Meets};
+
+use batches::abandonment::note_abandonment;
+use batches::finalization::resolve_lines;
+use calls::admission::take_in;
+use calls::certificate::note_absence;
+use calls::terminal::file_terminal;
+use ledger::{Done, Ledger};
+use lists::slices::word_at;
+use types::refusal::Refusal;
+use types::{Shard, Time, Transaction};
+use words::bundle::Bundle;
+
+// An item that is a terminal: its four words.
+fn terminal_item(ledger: &mut Ledger, words: &[u64]) -> Result<[u64; 3], Refusal>
+{
+    if words.len() != 4 {
+        return Err(Refusal::Malformed);
+    }
+    file_terminal(
+        ledger,
+        Shard(word_at(words, 0)),
+        Time(word_at(words, 1)),
+        word_at(words, 2),
+        Time(word_at(words, 3)),
+    )
+}
+
+// An item that is an absence: transaction, shard and key.
+fn absence_item(ledger: &mut Ledger, words: &[u64]) -> Result<[u64; 3], Refusal>
+{
+    if words.len() != 3 {
+        return Err(Refusal::Malformed);
+    }
+    let tx = Transaction::read(words, 0);
+    note_absence(ledger, tx, Shard(word_at(words, 1)), word_at(words, 2))
+}
+
+// An item of a kind.
+fn item(ledger: &mut Ledger, kind: u64, words: &[u64]) -> Result<[u64; 3], Refusal>
+{
+    match kind {
+        1 => terminal_item(ledger, words),
+        2 => note_abandonment(ledger, words),
+        3 => resolve_lines(ledger, words),
+        4 => take_in(ledger, words),
+        _ => absence_item(ledger, words),
+    }
+}
+
+// The items of a kind, as written, up to the first that is refused; what they answer in all.
+fn items(ledger: &mut Ledger, bundle: Bundle<'_>, kind: u64) -> Result<u64, Refusal>
+{
+    let mut at = bundle.items_at();
+    let mut count = 0;
+    for i in 0..bundle.len() {
+        let words = bundle.item(i, at);
+        at += words.len();
+        if bundle.kind(i) != kind {
+            continue;
+        }
+        let [answer, _, _] = item(ledger, kind, words)?;
+        count += answer;
+    }
+    Ok(count)
+}
+
+// All items, by rising kind; the three counts.
+fn all_items(ledger: &mut Ledger, words: &[u64]) -> Result<[u64; 3], Refusal>
+{
+    let bundle = Bundle::read(words)?;
+    items(ledger, bundle, 1)?;
+    let rebuilt = items(ledger, bundle, 2)?;
+    let released = items(ledger, bundle, 3)?;
+    let admitted = items(ledger, bundle, 4)?;
+    items(ledger, bundle, 5)?;
+    Ok([admitted, rebuilt, released])
+}
+
+// Does what a block brings, and answers how many admissions answered 1, how many entries were rebuilt and how many released. The ledger as it was is kept,
+// for the undoing.
+pub fn bundle(ledger: Ledger, words: &[u64]) -> Done
+    requires { Held ledger }
+    ensures { Meets (after_bundle words.now (contents ledger)) [] [] result }
+{
+    let mut after = ledger;
+    let said = all_items(&mut after, words);
+    if said.is_err() {
+        return Done { said, ledger };
+    }
+    Done {
+        said,
+        ledger: after,
+    }
+}

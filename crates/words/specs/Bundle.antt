@@ -1,0 +1,10 @@
+-- What a bundle's words are refused for, before any item is done.
+use Rattle.std.specs.Prelude.{ℕ, List, not}
+use Rattle.rules.specs.Words.{bundle_whole, bundle_known, bundle_measured}
+use Rattle.rules.specs.Outcome.{◌gives◌then◌}
+
+unfoldable pub form_refusal : List ℕ → ℕ
+form_refusal ws =
+    not (bundle_whole ws) gives 11 then
+    not (bundle_known ws) gives 10 then
+    not (bundle_measured ws) gives 11 then 0
