@@ -186,22 +186,18 @@ impl Entry {
         }
     }
 
-    // The entry with a certificate of at least this one.
-    pub fn with_certificate(self, certificate: Certificate) -> Entry
-        ensures { Means (certified (certificate_number certificate) (plain_entry self)) result }
+    // A certificate of at least this one. This and all that changes an entry is done where it lies, so that nothing is copied.
+    pub fn certify(&mut self, certificate: Certificate)
+        ensures { Means (certified (certificate_number certificate) (plain_entry self.old)) self.new }
     {
-        let mut e = self;
-        e.certified = e.certified.max(certificate);
-        e
+        self.certified = self.certified.max(certificate);
     }
 
-    // The entry named by a shard's record, over any older name.
-    pub fn with_departed_by(self, shard: Shard) -> Entry
-        ensures { Means (with_departed_by shard.0 (plain_entry self)) result }
+    // Named by a shard's record, over any older name.
+    pub fn name(&mut self, shard: Shard)
+        ensures { Means (with_departed_by shard.0 (plain_entry self.old)) self.new }
     {
-        let mut e = self;
-        e.departed_by = shard;
-        e
+        self.departed_by = shard;
     }
 
     // A core that no certificate by execution speaks for.
@@ -263,23 +259,19 @@ impl Entry {
             .any(|a| a.is(Absence { shard, key }))
     }
 
-    // The entry with this cell read absent.
-    pub fn with_absence(self, shard: Shard, key: u64) -> Entry
-        requires { RoomForAbsence (absence shard.0 key) self }
-        ensures { Means (read_absent (absence shard.0 key) (plain_entry self)) result }
+    // This cell read absent.
+    pub fn read_absent(&mut self, shard: Shard, key: u64)
+        requires { RoomForAbsence (absence shard.0 key) self.old }
+        ensures { Means (read_absent (absence shard.0 key) (plain_entry self.old)) self.new }
     {
         if self.is_read(shard, key) {
-            return self;
+            return;
         }
         let n = self.absences_len as usize;
         let x = Absence { shard, key };
         let k = rank(&self.absences[..n], |a| a.is_below(x));
-        let mut absences = self.absences;
-        insert_at(&mut absences, n, k, x);
-        let mut e = self;
-        e.absences = absences;
-        e.absences_len += 1;
-        e
+        insert_at(&mut self.absences, n, k, x);
+        self.absences_len += 1;
     }
 
     // Whether this record was settled or returned.
@@ -290,43 +282,34 @@ impl Entry {
         contains(&self.marks[..n], r.0)
     }
 
-    // The entry with this record marked, whatever its part.
-    fn put_mark(self, r: RecordKey, is_return: bool) -> Entry
-        requires { RoomForMark r.0 self }
-        ensures { Means (with_marks (include itself r.0 (plain_entry self).marks) (self.returned || is_return) (plain_entry self)) result }
+    // This record marked, whatever the entry's part.
+    fn put_mark(&mut self, r: RecordKey, is_return: bool)
+        requires { RoomForMark r.0 self.old }
+        ensures { Means (with_marks (include itself r.0 (plain_entry self.old).marks) (self.old.returned || is_return) (plain_entry self.old)) self.new }
     {
         let n = self.marks_len as usize;
-        let mut marks = self.marks;
-        let m = include(&mut marks, n, r.0);
-        let mut e = self;
-        e.returned = self.returned || is_return;
-        e.marks = marks;
-        e.marks_len = m as u8;
-        e
+        self.marks_len = include(&mut self.marks, n, r.0) as u8;
+        self.returned = self.returned || is_return;
     }
 
-    // The entry with this record settled, or returned: only where it issued the record and waits for its settlement.
+    // This record settled, or returned: only where the entry issued it and waits for its settlement.
     #[tactic(auto, using(crate::proofs::Shape::fits_of, crate::proofs::Put::issued_room), unfolding(crate::specs::Entry::plain_entry))]
-    pub fn with_mark(self, local: Shard, r: RecordKey, is_return: bool) -> Entry
-        requires { GoodEntry local.0 (plain_entry self) }
-        ensures { Means (marked local.0 r.0 is_return (plain_entry self)) result }
+    pub fn mark(&mut self, local: Shard, r: RecordKey, is_return: bool)
+        requires { GoodEntry local.0 (plain_entry self.old) }
+        ensures { Means (marked local.0 r.0 is_return (plain_entry self.old)) self.new }
     {
         if self.part.is_settling() && self.issues(local, r) {
-            self.put_mark(r, is_return)
-        } else {
-            self
+            self.put_mark(r, is_return);
         }
     }
 
-    // The entry as a remainder, with nothing marked yet.
-    pub fn resolve(self) -> Entry
-        ensures { Means (with_part remainder (plain_entry self)) result }
+    // A remainder from now on, with nothing marked yet.
+    pub fn resolve(&mut self)
+        ensures { Means (with_part remainder (plain_entry self.old)) self.new }
     {
-        let mut e = self;
-        e.part = Part::Remainder;
-        e.returned = false;
-        e.marks_len = 0; // what was marked before does not count
-        e
+        self.part = Part::Remainder;
+        self.returned = false;
+        self.marks_len = 0; // what was marked before does not count
     }
 
     // Whether an edge starts from local.
