@@ -2,3 +2,4 @@ pub mod Forms
 pub mod Groups
 pub mod Lines
 pub mod Built
+pub mod Bundles

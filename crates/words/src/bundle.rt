@@ -17,6 +17,7 @@ pub struct Bundle<'a> {
 }
 
 // At most 64 items are named, and kinds and lengths stand whole.
+#[tactic(auto, using(crate::proofs::Bundles::whole_is))]
 fn is_whole(words: &[u64]) -> bool
     ensures { result ≡ bundle_whole words.now }
 {
@@ -30,22 +31,50 @@ fn all_kinds(s: &[u64]) -> bool
     s.iter().all(|k| 1 <= *k && *k <= 5)
 }
 
+// Each item is of one of the five kinds.
+#[tactic(auto, using(crate::proofs::Bundles::whole_has), unfolding(rules::specs::Words::bundle_known))]
+fn is_known(words: &[u64]) -> bool
+    requires { bundle_whole words.now ≡ true }
+    ensures { result ≡ bundle_known words.now }
+{
+    all_kinds(part(words, 1, size_at(words, 0)))
+}
+
+// The lengths make up the rest of the words.
+#[tactic(auto, using(crate::proofs::Bundles::whole_has, crate::proofs::Bundles::measured_is))]
+fn is_measured(words: &[u64]) -> bool
+    requires { bundle_whole words.now ≡ true }
+    ensures { result ≡ bundle_measured words.now }
+{
+    let n = size_at(words, 0);
+    let rest = words.len() - (1 + 2 * n);
+    adds_up(part(words, 1 + n, n), rest)
+}
+
+// The words of a bundle, by the table.
+#[tactic(auto, unfolding(crate::specs::Bundle::form_refusal))]
+fn check(words: &[u64]) -> Result<(), Refusal>
+    ensures { refused_in result ≡ form_refusal words.now }
+{
+    if !is_whole(words) {
+        return Err(Refusal::NoBundle);
+    }
+    if !is_known(words) {
+        return Err(Refusal::UnknownKind);
+    }
+    if !is_measured(words) {
+        return Err(Refusal::NoBundle);
+    }
+    Ok(())
+}
+
+#[tactic(auto, using(crate::proofs::Bundles::bundled, crate::proofs::Bundles::kind_word, crate::proofs::Bundles::length_word, crate::proofs::Bundles::item_within))]
 impl<'a> Bundle<'a> {
     pub fn read(words: &'a [u64]) -> Result<Bundle<'a>, Refusal>
         ensures refused { refused_in result ≡ form_refusal words.now }
         ensures read { IfOk result (λ b. b.words.now ≡ words.now) }
     {
-        if !is_whole(words) {
-            return Err(Refusal::NoBundle);
-        }
-        let n = size_at(words, 0);
-        if !all_kinds(part(words, 1, n)) {
-            return Err(Refusal::UnknownKind);
-        }
-        let rest = words.len() - (1 + 2 * n);
-        if !adds_up(part(words, 1 + n, n), rest) {
-            return Err(Refusal::NoBundle);
-        }
+        check(words)?;
         Ok(Bundle { words })
     }
 
