@@ -81,12 +81,12 @@ pub fn note_abandonment(ledger: &mut Ledger, words: &[u64]) -> Result<[u64; 3], 
         match ledger.roster.find(tx) {
             Some(k) => {
                 let slot = ledger.roster.slots[k];
-                let old = ledger.entries[slot];
-                ledger.entries[slot] = old.with_departed_by(shard);
+                ledger.entries[slot].name(shard);
             }
             None => {
                 let slot = ledger.roster.slots[ledger.roster.len];
-                ledger.roster = ledger.roster.insert_at(ledger.roster.rank(tx), tx);
+                let k = ledger.roster.rank(tx);
+                ledger.roster.insert_at(k, tx);
                 ledger.entries[slot] = groups.group(i, at);
                 rebuilt += 1;
             }

@@ -86,15 +86,12 @@ pub fn resolve_lines(ledger: &mut Ledger, words: &[u64]) -> Result<[u64; 3], Ref
             continue;
         };
         let slot = ledger.roster.slots[k];
-        let e = ledger.entries[slot];
-        match rule(finalization, line, &e, ledger.local) {
+        match rule(finalization, line, &ledger.entries[slot], ledger.local) {
             Ruling::Skip => {}
-            Ruling::Resolve => {
-                ledger.entries[slot] = e.resolve();
-            }
+            Ruling::Resolve => ledger.entries[slot].resolve(),
             Ruling::Release => {
-                ledger.roster = ledger.roster.remove_at(k);
-                ledger.issuers = ledger.issuers.without(line.tx);
+                ledger.roster.remove_at(k);
+                ledger.issuers.unname(line.tx);
                 released += 1;
             }
             Ruling::Refused => {} // never: the words are formed

@@ -62,7 +62,8 @@ pub fn take_in(ledger: &mut Ledger, words: &[u64]) -> Result<[u64; 3], Refusal>
     }
     let e = admission.entry(ledger.local);
     let slot = ledger.roster.slots[len];
-    ledger.roster = ledger.roster.insert_at(ledger.roster.rank(tx), tx);
+    let k = ledger.roster.rank(tx);
+    ledger.roster.insert_at(k, tx);
     name_issued(&mut ledger.issuers, &e, ledger.local);
     ledger.entries[slot] = e;
     Ok([1, 0, 0])

@@ -24,8 +24,9 @@ pub fn certify(mut ledger: Ledger, tx: Transaction, code: u64) -> Done
         };
     };
     if let Some(slot) = ledger.roster.slot_of(tx) {
-        let e = ledger.entries[slot];
-        ledger.entries[slot] = e.with_certificate(certificate);
+        let mut e = ledger.entries[slot];
+        e.certify(certificate);
+        ledger.entries[slot] = e;
     }
     Done {
         said: Ok([0; 3]),
@@ -49,7 +50,7 @@ pub fn note_absence(
     let Some(slot) = ledger.roster.slot_of(tx) else {
         return Ok([0; 3]);
     };
-    let e = ledger.entries[slot];
+    let e = &ledger.entries[slot];
     if e.is_read(shard, key) {
         return Ok([0; 3]);
     }
@@ -57,7 +58,7 @@ pub fn note_absence(
     if is_full {
         return Err(Refusal::AbsencesFull);
     }
-    ledger.entries[slot] = e.with_absence(shard, key);
+    ledger.entries[slot].read_absent(shard, key);
     Ok([1, 0, 0])
 }
 

@@ -24,8 +24,8 @@ fn let_go<F: Fn(&Entry) -> bool>(ledger: &mut Ledger, tx: Transaction, goes: F) 
     if !goes(&ledger.entries[slot]) {
         return false;
     }
-    ledger.roster = ledger.roster.remove_at(k);
-    ledger.issuers = ledger.issuers.without(tx);
+    ledger.roster.remove_at(k);
+    ledger.issuers.unname(tx);
     true
 }
 

@@ -15,8 +15,9 @@ fn mark(mut ledger: Ledger, r: RecordKey, tx: Transaction, is_return: bool) -> D
     ensures { Meets (after_mark r.0 (number_of tx) is_return (contents ledger)) [] [] result }
 {
     if let Some(slot) = ledger.roster.slot_of(tx) {
-        let e = ledger.entries[slot];
-        ledger.entries[slot] = e.with_mark(ledger.local, r, is_return);
+        let mut e = ledger.entries[slot];
+        e.mark(ledger.local, r, is_return);
+        ledger.entries[slot] = e;
     }
     Done {
         said: Ok([0; 3]),

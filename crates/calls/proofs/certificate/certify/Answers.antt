@@ -32,6 +32,6 @@ returns c =
     let P = (λ (y : Ledger). Meets (after_certify t c.args.code (contents l)) [] [] (says 0 y)) in
     let code = known c.in-Ok.certificate c.args.code c.in-Ok.ensures in
     elim c.match-slot_of.branch [
-      | in-Some w ↦ of_parts P _ _ w.ledger-is (certify-owed l c.requires t c.args.code code w.in-Some.slot (rw w.in-Some.is at c.slot_of.ensures) _ w.with_certificate.result (rw c.in-Ok.ensures at w.with_certificate.ensures)) _
+      | in-Some w ↦ of_parts P _ _ w.ledger-is (certify-owed l c.requires t c.args.code code w.in-Some.slot (rw w.in-Some.is at c.slot_of.ensures) _ _ (rw c.in-Ok.ensures at w.certify.ensures)) _
       | in_default-slot_of w ↦ of_parts P _ _ w.ledger-is (as_it_was P l (certify_unknown l c.requires t c.args.code code (rw w.in_default-slot_of.is at c.slot_of.ensures))) _
     ]

@@ -23,11 +23,11 @@ returns-then-not-goes g c = λ q says n.
     released_other c.args.ledger.now c.requires.held (number_of c.args.tx) q n c.in-Some.k _ (sym c.find.ensures ∙ c.in-Some.is)
     (sym (says _ _ (says_at g.F.Fn c.goes.ensures refl)) ∙ c.if-not-goes.true)
 
-pub remove_at-ledger-requires : goal.remove_at-ledger-requires
-remove_at-ledger-requires g c =
+pub remove_at-requires : goal.remove_at-requires
+remove_at-requires g c =
     (found_at c.args.ledger.now c.requires.held (number_of c.args.tx) c.in-Some.k (sym c.find.ensures ∙ c.in-Some.is)).place
 
 pub returns : goal.returns
 returns g c = λ q says n.
     released-passing c.args.ledger.now c.requires.held (number_of c.args.tx) q n c.in-Some.k _ (sym c.find.ensures ∙ c.in-Some.is)
-    (sym (says _ _ (says_at g.F.Fn c.goes.ensures refl)) ∙ c.if-not-goes.false) c.remove_at-ledger.result c.without-ledger.result c.remove_at-ledger.ensures c.without-ledger.ensures _
+    (sym (says _ _ (says_at g.F.Fn c.goes.ensures refl)) ∙ c.if-not-goes.false) _ _ c.remove_at.ensures c.unname.ensures _

@@ -11,9 +11,9 @@ use Rattle.calls.proofs.Single.{mark_unknown, mark_owed}
 use Rattle.calls.proofs.settlement.mark.Goals as goal
 use Rattle.calls.proofs.settlement.mark.Goals.{in-Some, in_default}
 
-pub with_mark-requires : goal.with_mark-requires
+pub mark-requires : goal.mark-requires
 unfolding contents
-with_mark-requires c =
+mark-requires c =
     (owed_in c.args.ledger c.requires (number_of c.args.tx) c.in-Some.slot (rw c.in-Some.is at c.slot_of.ensures)).good _
 
 pub returns : goal.returns
@@ -21,6 +21,6 @@ returns c =
     let l = c.args.ledger in
     let P = (λ (y : Ledger). Meets (after_mark c.args.r.0 (number_of c.args.tx) c.args.is_return (contents l)) [] [] (says 0 y)) in
     elim c.match-slot_of.branch [
-      | in-Some w ↦ of_parts P _ _ w.ledger-is (mark_owed l c.requires (number_of c.args.tx) c.args.r.0 c.args.is_return w.in-Some.slot (rw w.in-Some.is at c.slot_of.ensures) _ w.with_mark.result w.with_mark.ensures) _
+      | in-Some w ↦ of_parts P _ _ w.ledger-is (mark_owed l c.requires (number_of c.args.tx) c.args.r.0 c.args.is_return w.in-Some.slot (rw w.in-Some.is at c.slot_of.ensures) _ _ w.mark.ensures) _
       | in_default w ↦ of_parts P _ _ w.ledger-is (as_it_was P l (mark_unknown l c.requires (number_of c.args.tx) c.args.r.0 c.args.is_return (rw w.in_default.is at c.slot_of.ensures))) _
     ]

@@ -1,0 +1,54 @@
+-- The table from the top, then what is owed is skipped, and what is not takes the first slot that is free.
+use Rattle.std.specs.Prelude.{Err}
+use Rattle.std.proofs.Common.{ℕ, ◌≡◌, ap, sym, ◌∙◌, List, arith, rules, Option}
+use Rattle.std.proofs.Math.Seq.{length-take-le}
+use Rattle.lists.specs.Arrays.{place, rank}
+use Rattle.lists.proofs.Loops.{rank_le}
+use Rattle.rules.specs.Words.{admission_terms}
+use Rattle.store.specs.Roster.{keys_of, is, below}
+use Rattle.store.proofs.Rosters.{free_slot_lem}
+use Rattle.words.proofs.Forms.{all_words_lem}
+use Rattle.calls.proofs.Admitting.{turned_away, skipped, full, nameable, admits}
+use Rattle.calls.proofs.admission.take_in.Goals as goal
+
+-- what the roster says of the transaction it says of the words' own
+says : (f : Option ℕ) (t : ℕ) (ws us keys : List ℕ) → f ≡ place (is t) 0 keys → t ≡ (admission_terms us).transaction → us ≡ ws → (g : Option ℕ) → f ≡ g →
+    place (is (admission_terms ws).transaction) 0 keys ≡ g
+says f t ws us keys e q r g h = sym (e ∙ ap (λ v. place (is v) 0 keys) (q ∙ ap (λ l. (admission_terms l).transaction) r)) ∙ h
+
+pub returns-in_err-admission : goal.returns-in_err-admission
+returns-in_err-admission c =
+    let said : c.from_residual.result ≡ Err c.in_err-admission.field-0.0 = search rules in
+    rw said (turned_away c.args.ledger.now c.requires c.args.words.now c.in_err-admission.field-0.0 c.in_err-admission.ensures.refused)
+
+pub returns-in_default : goal.returns-in_default
+returns-in_default c =
+    skipped c.args.ledger.now c.requires c.args.words.now c.in_ok-admission.ensures.refused c.in_default.field-0
+    (says _ _ _ _ _ c.find.ensures c.transaction-tx.ensures c.in_ok-admission.ensures.read _ c.in_default.is)
+
+pub returns-then-is_full : goal.returns-then-is_full
+returns-then-is_full c =
+    full c.args.ledger.now c.requires c.args.words.now c.in_ok-admission.ensures.refused
+    (says _ _ _ _ _ c.find.ensures c.transaction-tx.ensures c.in_ok-admission.ensures.read _ c.in-None.is) (search rules)
+
+pub insert_at-requires : goal.insert_at-requires
+insert_at-requires c =
+    let k = c.args.ledger.now.roster in
+    (omega (arith, c.rank-k.ensures, rank_le (below c.transaction-tx.result.0) (keys_of k), length-take-le k.len k.keys (omega (arith, k.room, k.lengths.0))), omega arith)
+
+pub name_issued-requires : goal.name_issued-requires
+name_issued-requires c =
+    nameable c.args.ledger.now c.requires c.args.words.now c.in_ok-admission.ensures.refused
+    (says _ _ _ _ _ c.find.ensures c.transaction-tx.ensures c.in_ok-admission.ensures.read _ c.in-None.is) (omega arith)
+    c.entry-e.result (rw c.in_ok-admission.ensures.read at c.entry-e.ensures) (all_words_lem c.args.words.now (λ i. omega (arith, c.type_inv.words i)))
+
+pub bounds-ledger-slot : goal.bounds-ledger-slot
+bounds-ledger-slot c = (free_slot_lem c.args.ledger.now.roster (omega arith)).0
+
+pub returns : goal.returns
+returns c =
+    let t = c.transaction-tx.ensures ∙ ap (λ l. (admission_terms l).transaction) c.in_ok-admission.ensures.read in
+    admits c.args.ledger.now c.requires c.args.words.now c.in_ok-admission.ensures.refused
+    (says _ _ _ _ _ c.find.ensures c.transaction-tx.ensures c.in_ok-admission.ensures.read _ c.in-None.is) (omega arith)
+    c.entry-e.result (rw c.in_ok-admission.ensures.read at c.entry-e.ensures) (all_words_lem c.args.words.now (λ i. omega (arith, c.type_inv.words i)))
+    c.rank-k.result (c.rank-k.ensures ∙ ap (λ v. rank (below v) (keys_of c.args.ledger.now.roster)) t) _ (rw t at c.insert_at.ensures) _ c.name_issued.ensures _
