@@ -152,9 +152,9 @@ rebuilt-all l₀ ws l start n i sum held none f v h q z =
     (rw (sym many)
     (answers n (with_count l sum z) _ _ (record { held = b.held; holds = b.holds ∙ ap₂ with_rebuilt sums es }) refl))
 
--- a turn of the loop: the group's entry x was read, and the ledger after it
+-- a turn of the loop: the group's transaction t was read, and the ledger after it
 module _ (l₀ : Ledger) (ws : List ℕ) (p : Passed ws (contents l₀)) (l : Ledger) (start n i : ℕ) (v : Rebuilding l₀ ws l start n i) (h : i < group_count ws)
-    (x : Entry) (m : Means (rebuilt (record_shard ws) (group_at ws i start)) x) where
+    (t : ℕ) (of_group : t ≡ (group_at ws i start).transaction) where
   abbrev g : Terms
   g = group_at ws i start
 
@@ -163,11 +163,6 @@ module _ (l₀ : Ledger) (ws : List ℕ) (p : Passed ws (contents l₀)) (l : Le
 
   more : drop i (record_groups ws) ≡ g ∷ drop (i + 1) (record_groups ws)
   more = group_at_lem ws p.formed i start h v.reach
-
-  -- the entry is of the group's transaction
-  of_group : number_of x.tx ≡ g.transaction
-  unfolding plain_entry
-  of_group = ap transaction_of m.plain
 
   next : (b : Bool) (r : Ledger) → has transaction_of g.transaction (contents l).entries ≡ b →
       Became (with_entries (cond b (change transaction_of g.transaction (with_departed_by shard) (contents l).entries) (include transaction_of (rebuilt shard g) (contents l).entries)) (contents l)) r →
@@ -181,21 +176,21 @@ module _ (l₀ : Ledger) (ws : List ℕ) (p : Passed ws (contents l₀)) (l : Le
             (cond b 0 1) (ap (λ d. cond d 0 1) (sym e));
       }
 
-  pub group_owed : (k : ℕ) (d y : Entry) → place (is (number_of x.tx)) 0 (keys_of l.roster) ≡ Some k →
+  pub group_owed : (k : ℕ) (d y : Entry) → place (is t) 0 (keys_of l.roster) ≡ Some k →
       Means (with_departed_by shard (plain_entry (lying_at l k d))) y →
       (z : length (set l.entries (slot_at l k) y) ≡ 48) → Rebuilding l₀ ws (storing l (slot_at l k) y z) (start + reach_at ws i) n (i + 1)
   group_owed k d y e w s =
-      let b = changed l v.doing.held (number_of x.tx) k y d (with_departed_by shard) e w.plain (λ z. refl)
-      (with-name (contents l) (number_of x.tx) shard (departed_by-shard shard p.shard) v.doing.held.good) s in
+      let b = changed l v.doing.held t k y d (with_departed_by shard) e w.plain (λ z. refl)
+      (with-name (contents l) t shard (departed_by-shard shard p.shard) v.doing.held.good) s in
       rw (let z : n + 0 ≡ n = omega arith in z) at
-      (next true _ (ap (λ t. has transaction_of t (contents l).entries) (sym of_group) ∙ (found_at l v.doing.held (number_of x.tx) k e).known)
-      (subst (λ t. Became (with_entries (change transaction_of t (with_departed_by shard) (contents l).entries) (contents l)) (storing l (slot_at l k) y s)) of_group b))
+      (next true _ (ap (λ u. has transaction_of u (contents l).entries) (sym of_group) ∙ (found_at l v.doing.held t k e).known)
+      (subst (λ u. Became (with_entries (change transaction_of u (with_departed_by shard) (contents l).entries) (contents l)) (storing l (slot_at l k) y s)) of_group b))
 
-  unknown : place (is (number_of x.tx)) 0 (keys_of l.roster) ≡ None → has transaction_of g.transaction (contents l).entries ≡ false
-  unknown e = ap (λ t. has transaction_of t (contents l).entries) (sym of_group) ∙ (not_found l v.doing.held (number_of x.tx) e).known
+  unknown : place (is t) 0 (keys_of l.roster) ≡ None → has transaction_of g.transaction (contents l).entries ≡ false
+  unknown e = ap (λ u. has transaction_of u (contents l).entries) (sym of_group) ∙ (not_found l v.doing.held t e).known
 
   -- what was counted leaves a place
-  pub group_room : place (is (number_of x.tx)) 0 (keys_of l.roster) ≡ None → l.roster.len < 48
+  pub group_room : place (is t) 0 (keys_of l.roster) ≡ None → l.roster.len < 48
   unfolding contents
   group_room e =
       let es = (contents l).entries in
@@ -204,19 +199,24 @@ module _ (l₀ : Ledger) (ws : List ℕ) (p : Passed ws (contents l₀)) (l : Le
       ap (λ y. rebuilt_by shard y es) more ∙ ap (λ b. cond b 0 1 + rebuilt_by shard rest (with_group shard g es)) (unknown e) in
       omega (arith, one, p.room, groups_count shard (drop i (record_groups ws)) es, ap (λ (p : Plain). length p.entries) (left_to_do l₀ ws l start n i v), entries-length l v.doing.held)
 
-  room-left : place (is (number_of x.tx)) 0 (keys_of l.roster) ≡ None → length (contents l).entries < 48
+  room-left : place (is t) 0 (keys_of l.roster) ≡ None → length (contents l).entries < 48
   unfolding contents
   room-left e = omega (arith, group_room e, entries-length l v.doing.held)
 
-  pub group_new : Every (Holds is_word) ws → (k : ℕ) (r : Roster) → place (is (number_of x.tx)) 0 (keys_of l.roster) ≡ None → k ≡ rank (below (number_of x.tx)) (keys_of l.roster) →
-      Inserted l.roster k (number_of x.tx) r →
-      (z : length (set l.entries (free_slot l.roster) x) ≡ 48) →
+  -- the entry is of the group's transaction
+  of_entry : (x : Entry) → Means (rebuilt shard g) x → number_of x.tx ≡ t
+  unfolding plain_entry
+  of_entry x m = ap transaction_of m.plain ∙ sym of_group
+
+  pub group_new : Every (Holds is_word) ws → (k : ℕ) (r : Roster) → place (is t) 0 (keys_of l.roster) ≡ None → k ≡ rank (below t) (keys_of l.roster) → Inserted l.roster k t r →
+      (x : Entry) → Means (rebuilt shard g) x → (z : length (set l.entries (free_slot l.roster) x) ≡ 48) →
       Rebuilding l₀ ws (with_parts l l.rebuilt r (set l.entries (free_slot l.roster) x) l.issuers l.departures z) (start + reach_at ws i) (n + 1) (i + 1)
-  group_new words k r e q o z =
+  group_new words k r e q o x m z =
       let goods = every_drop GoodGroup i (record_groups ws) (groups_good ws words p.formed p.timed) in
       let good : GoodGroup g = (rw more at goods).0 in
       let entry : GoodEntry (contents l).local (plain_entry x) = rw m.plain (rebuilt-good (contents l).local shard g p.shard (departed_by-shard shard p.shard) good) in
-      let b = taken_in l v.doing.held k x r l.issuers e q (group_room e) entry.terms.transaction o (rw m.plain v.doing.held.issuers)
+      let same = of_entry x m in
+      let b = taken_in l v.doing.held k x r l.issuers (rw same e) (rw same q) (group_room e) entry.terms.transaction (rw same o) (rw m.plain v.doing.held.issuers)
       (including_good (contents l) (plain_entry x) entry (room-left e) v.doing.held.good) z in
       next false _ (unknown e)
       (subst (λ y. Became (with_entries (include transaction_of y (contents l).entries) (contents l)) (with_parts l l.rebuilt r (set l.entries (free_slot l.roster) x) l.issuers l.departures z)) m.plain b)

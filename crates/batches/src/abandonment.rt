@@ -81,13 +81,14 @@ pub fn note_abandonment(ledger: &mut Ledger, words: &[u64]) -> Result<[u64; 3], 
         match ledger.roster.find(tx) {
             Some(k) => {
                 let slot = ledger.roster.slots[k];
-                ledger.entries[slot].name(shard);
+                ledger.entries[slot].departed_by = shard;
             }
             None => {
+                let e = groups.group(i, at);
                 let slot = ledger.roster.slots[ledger.roster.len];
                 let k = ledger.roster.rank(tx);
                 ledger.roster.insert_at(k, tx);
-                ledger.entries[slot] = groups.group(i, at);
+                ledger.entries[slot] = e;
                 rebuilt += 1;
             }
         }

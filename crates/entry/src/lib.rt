@@ -148,7 +148,7 @@ impl TryFrom<u64> for Certificate {
 #[tactic(auto, using(crate::proofs::Shape::fits_of), unfolding(crate::specs::Entry::plain_entry))]
 impl Entry {
     ghost use Rattle.rules.specs.Plain.{is_core, is_covered, issued, issues, owes, remote, remainder};
-    ghost use Rattle.rules.specs.Entries.{certified, with_departed_by, with_part, with_marks, marked, read_absent, is_read, is_closed};
+    ghost use Rattle.rules.specs.Entries.{certified, with_part, with_marks, marked, read_absent, is_read, is_closed};
     ghost use Rattle.rules.specs.Good.{GoodEntry};
     ghost use Rattle.entry.specs.Entry.{plain_entry, plain_absence, certificate_number, absence, is_marked, FindsEdge, Blank, Means, RoomForAbsence, RoomForMark};
 
@@ -191,13 +191,6 @@ impl Entry {
         ensures { Means (certified (certificate_number certificate) (plain_entry self.old)) self.new }
     {
         self.certified = self.certified.max(certificate);
-    }
-
-    // Named by a shard's record, over any older name.
-    pub fn name(&mut self, shard: Shard)
-        ensures { Means (with_departed_by shard.0 (plain_entry self.old)) self.new }
-    {
-        self.departed_by = shard;
     }
 
     // A core that no certificate by execution speaks for.

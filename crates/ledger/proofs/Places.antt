@@ -28,6 +28,10 @@ use Rattle.ledger.specs.Contents.{no_entry, entry_in, entries_of, contents, Held
 pub entry_in_lem : (es : List Entry) (s : ℕ) (d : Entry) → s < length es → entry_in es s ≡ plain_entry (get_or es s d)
 entry_in_lem es s d h = get_d_any (map plain_entry es) s no_entry (plain_entry d) (omega (arith, length-map es plain_entry)) ∙ get_or-map plain_entry es s d
 
+-- of a slot the same is read, whatever is read past the last
+pub in_slot : (l : Ledger) (s : ℕ) (d e : Entry) → s < 48 → get_or l.entries s d ≡ get_or l.entries s e
+in_slot l s d e h = get_d_any l.entries s d e (omega (arith, h, l.slots))
+
 -- what stands at a place, whatever is read past the end
 pub record EntryAt (l : Ledger) (k : ℕ) : Type 0 where
   pub below : k < l.roster.len

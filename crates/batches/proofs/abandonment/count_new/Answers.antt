@@ -9,7 +9,7 @@ use Rattle.batches.proofs.Counting.{count_start, count-end, turn_owed, turn_earl
 use Rattle.batches.proofs.abandonment.count_new.Goals as goal
 
 pub loop-i-init : goal.loop-i-init
-loop-i-init c = (omega arith, omega (arith, count_start (keys_of c.args.roster) (transactions c.args.groups.words.now)))
+loop-i-init c = (omega arith, omega (arith, count_start (keys_of c.args.roster.now) (transactions c.args.groups.words.now)))
 
 pub loop-i-preserved-in_default : goal.loop-i-preserved-in_default
 loop-i-preserved-in_default c =
@@ -17,8 +17,8 @@ loop-i-preserved-in_default c =
     let r = c.args.groups in
     let h = c.len-i-end.ensures in
     let here = c.transaction-tx.ensures ∙ transaction-at r.words.now r.formed l.i (omega (arith, h)) in
-    let done = turn_owed (keys_of c.args.roster) (transactions r.words.now) l.i (omega (arith, h, transactions-length r.words.now r.formed)) (number_of c.transaction-tx.result) here
-    (located self (number_of c.transaction-tx.result) (keys_of c.args.roster) c.in_default.field-0 (sym c.find.ensures ∙ c.in_default.is)).known in
+    let done = turn_owed (keys_of c.args.roster.now) (transactions r.words.now) l.i (omega (arith, h, transactions-length r.words.now r.formed)) (number_of c.transaction-tx.result) here
+    (located self (number_of c.transaction-tx.result) (keys_of c.args.roster.now) c.in_default.field-0 (sym c.find.ensures ∙ c.in_default.is)).known in
     (omega arith, omega (arith, done, l.invariant.1))
 
 pub loop-i-preserved-then-is_among : goal.loop-i-preserved-then-is_among
@@ -27,7 +27,7 @@ loop-i-preserved-then-is_among c =
     let r = c.args.groups in
     let h = c.len-i-end.ensures in
     let here = c.transaction-tx.ensures ∙ transaction-at r.words.now r.formed l.i (omega (arith, h)) in
-    let done = turn_earlier (keys_of c.args.roster) (transactions r.words.now) l.i (omega (arith, h, transactions-length r.words.now r.formed)) (number_of c.transaction-tx.result) here
+    let done = turn_earlier (keys_of c.args.roster.now) (transactions r.words.now) l.i (omega (arith, h, transactions-length r.words.now r.formed)) (number_of c.transaction-tx.result) here
     (sym c.is_among.ensures ∙ c.if-is_among.true) in
     (omega arith, omega (arith, done, l.invariant.1))
 
@@ -37,12 +37,12 @@ loop-i-preserved c =
     let r = c.args.groups in
     let h = c.len-i-end.ensures in
     let here = c.transaction-tx.ensures ∙ transaction-at r.words.now r.formed l.i (omega (arith, h)) in
-    let done = turn_new (keys_of c.args.roster) (transactions r.words.now) l.i (omega (arith, h, transactions-length r.words.now r.formed)) (number_of c.transaction-tx.result) here
-    (missing self (number_of c.transaction-tx.result) (keys_of c.args.roster) (sym c.find.ensures ∙ c.in-None.is)).known (sym c.is_among.ensures ∙ c.if-is_among.false) in
+    let done = turn_new (keys_of c.args.roster.now) (transactions r.words.now) l.i (omega (arith, h, transactions-length r.words.now r.formed)) (number_of c.transaction-tx.result) here
+    (missing self (number_of c.transaction-tx.result) (keys_of c.args.roster.now) (sym c.find.ensures ∙ c.in-None.is)).known (sym c.is_among.ensures ∙ c.if-is_among.false) in
     (omega arith, omega (arith, done, l.invariant.1))
 
 pub returns : goal.returns
 returns c =
     let l = c.loop-i in
     let r = c.args.groups in
-    omega (arith, l.invariant.1, count-end (keys_of c.args.roster) (transactions r.words.now) l.i (omega (arith, c.len-i-end.ensures, transactions-length r.words.now r.formed)))
+    omega (arith, l.invariant.1, count-end (keys_of c.args.roster.now) (transactions r.words.now) l.i (omega (arith, c.len-i-end.ensures, transactions-length r.words.now r.formed)))
