@@ -12,7 +12,7 @@ use Rattle.rules.specs.Numbers.{is_word}
 use Rattle.rules.specs.Plain.{Plain}
 use Rattle.rules.specs.Words.{word, transaction_size, transaction_at, Item, is_kind, bundle_whole, bundle_known, bundle_measured, bundle_items}
 use Rattle.rules.specs.Outcome.{Outcome, said, unless, ◌gives◌then◌}
-use Rattle.rules.specs.Calls.{after_admission, after_absence, after_abandonment, after_finalization, after_terminal, after_certify, after_item, with_item, items_refusal, answered_by, bundle_refusal, after_bundle, item_call}
+use Rattle.rules.specs.Calls.{after_admission, after_absence, after_abandonment, after_finalization, after_terminal, after_item, with_item, items_refusal, answered_by, bundle_refusal, after_bundle, item_call}
 use Rattle.rules.specs.Good.{Holds, Good}
 use Rattle.rules.specs.LeftOut.{less, Omitted, Apart, EachApart}
 use Rattle.rules.proofs.Items.{by_item, item-step, item-ledger, OfWordsItem, items-words}
@@ -20,14 +20,14 @@ use Rattle.rules.proofs.Kept.{item-good}
 use Rattle.rules.proofs.Bundled.{none_refused}
 use Rattle.rules.proofs.Less.{Felled, Beside}
 use Rattle.rules.proofs.Moved.{Moved, Paired, unless_paired}
-use Rattle.rules.proofs.ApartEntries.{certify_paired, absence_paired, admission_paired}
+use Rattle.rules.proofs.ApartEntries.{absence_paired, admission_paired}
 use Rattle.rules.proofs.ApartItems.{finalization_paired, abandonment_paired}
 use Rattle.rules.proofs.ApartFiles.{terminal_paired}
 
 -- an item writes no words, so what it says tells its answers
 item-silent : (i : Item) (p : Plain) → (after_item i p).words ≡ []
-unfolding after_admission after_absence after_abandonment after_finalization after_terminal after_certify
-item-silent i p = by_item (λ c f. (f p).words ≡ []) i (silent _ _ refl) (silent _ _ refl) (silent _ _ refl) (silent _ _ refl) (silent _ _ refl) refl
+unfolding after_admission after_absence after_abandonment after_finalization after_terminal
+item-silent i p = by_item (λ c f. (f p).words ≡ []) i (silent _ _ refl) (silent _ _ refl) (silent _ _ refl) (silent _ _ refl) (silent _ _ refl) (silent _ _ refl)
   where
     silent : (n : ℕ) (o : Outcome) → o.words ≡ [] → (unless n p o).words ≡ []
     silent zero o e = e
@@ -49,7 +49,7 @@ module _ (o : Omitted) where
       (λ a g. finalization_paired o fell p b ws a.named g)
       (λ a g. admission_paired o fell p b ws a.named.0 a.clear.0 (a.room refl) g)
       (λ a g. absence_paired o fell p b (transaction_at 0 ws) (record { shard = word transaction_size ws; key = word (transaction_size + 1) ws }) a.named.0 g)
-      (λ a g. certify_paired o fell p b 0 3 a.named.0 g)
+      (λ a g. finalization_paired o fell p b [] a.named g)
     where
       ws : List ℕ
       ws = i.words

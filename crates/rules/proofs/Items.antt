@@ -11,9 +11,9 @@ use Rattle.lists.proofs.Keep.{every_keep, every_always, every_concat_map}
 use Rattle.lists.proofs.Parts.{every_take, every_drop, every_zip_by}
 use Rattle.rules.specs.Numbers.{is_word}
 use Rattle.rules.specs.Plain.{Plain}
-use Rattle.rules.specs.Words.{word, transaction_size, transaction_at, Item, is_kind, items_at, item_kinds, item_lengths, items_written, bundle_items}
+use Rattle.rules.specs.Words.{word, transaction_size, transaction_at, Item, is_kind, items_at, item_kinds, item_lengths, items_written, bundle_items, finalization_formed}
 use Rattle.rules.specs.Outcome.{Outcome}
-use Rattle.rules.specs.Calls.{Call, absence, abandonment, finalization, admission, terminal, step, after_certify, after_item, with_item, refused_call, item_call}
+use Rattle.rules.specs.Calls.{Call, absence, abandonment, finalization, admission, terminal, step, after_finalization, after_item, with_item, refused_call, item_call}
 use Rattle.rules.specs.Good.{Holds}
 
 -- What is true of each call that an item of these words may be is true of its own call, and of what it does on each ledger.
@@ -31,7 +31,7 @@ module _ (P : Call → (Plain → Outcome) → Type 0) (i : Item) where
   Of c = P c (λ p. step c p)
 
   pub by_item : Of filed → Of (abandonment own) → Of (finalization own) → Of (admission own) → Of read → Of refused_call → P (item_call i) (λ p. after_item i p)
-  unfolding after_certify
+  unfolding finalization_formed after_finalization
   by_item t r f e n z = go (is_kind 1 i) (is_kind 2 i) (is_kind 3 i) (is_kind 4 i) (eqb (length own) 4) (eqb (length own) (transaction_size + 2))
     where
       go : (a b c d x y : Bool) →

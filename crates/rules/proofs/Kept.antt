@@ -424,7 +424,7 @@ item-good i p v g =
     (finalization-kept ws p g)
     (admission-kept ws p v g)
     (absence-kept (transaction_at 0 ws) (record { shard = word transaction_size ws; key = word (transaction_size + 1) ws }) p (words-at (transaction_size + 1) ws v) g)
-    (certify-kept 0 3 p g)
+    (finalization-kept [] p g)
   where
     ws : List ℕ
     ws = i.words

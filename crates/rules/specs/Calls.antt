@@ -270,9 +270,9 @@ abbrev pub run : List Call → Plain → Plain
 run [] p = p
 run (c ∷ cs) p = run cs (step c p).ledger
 
--- The call that an item is; one of a wrong length is a call that is refused by 5, whatever the ledger.
+-- The call that an item is; one of a wrong length is a call that is refused by 5, whatever the ledger, and names nothing.
 abbrev pub refused_call : Call
-refused_call = certify 0 3
+refused_call = finalization []
 
 abbrev pub item_call : Item → Call
 item_call i =

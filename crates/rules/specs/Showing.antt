@@ -139,6 +139,15 @@ apart =
       with = 4 ∷ 1 ∷ 0 ∷ 0 ∷ [];
       without = 4 ∷ 1 ∷ 0 ∷ 0 ∷ [];
     }
+    ∷ record {
+      name = "a bundle whose terminal is a word short, which names nothing: transaction 0 neither";
+      made = whole_alone 0 ∷ [];
+      calls = prune 1100 144 ∷ bundle (bundle_of (1 ∷ []) ((5 ∷ 11 ∷ 0 ∷ []) ∷ [])) ∷ [];
+      last = 1100;
+      fails = [];
+      with = 5 ∷ 1 ∷ 0 ∷ 0 ∷ [];
+      without = 5 ∷ 1 ∷ 0 ∷ 0 ∷ [];
+    }
     ∷ []
 
 abbrev pub showing : List Row
