@@ -12,7 +12,7 @@ use lib.Seq.{drop-drop, get_or-drop, take_all, take-append_seam, drop-append_sea
 use Rattle.lists.proofs.Cuts.{rest_more}
 use Rattle.rules.specs.Plain.{Plain}
 use Rattle.rules.specs.Words.{word}
-use Rattle.rules.specs.Calls.{Call, admission, absence, certify, abandonment, settled, returned, closes, fated, finalization, forget, terminal, stamp, prune}
+use Rattle.rules.specs.Calls.{Call, admission, absence, certify, abandonment, settled, returned, closes, fated, finalization, forget, terminal, stamp, prune, bundle}
 use Rattle.dispatch.specs.Changing.{call_of}
 use Rattle.claim.specs.declared.RunAndPruned.{RunAndPruned}
 use Rattle.claim.specs.Claim.{Lent, Claim}
@@ -80,6 +80,7 @@ call_of_lem limit (forget t) h = refl
 call_of_lem limit (terminal shard cut is_stamped until) h = refl
 call_of_lem limit (stamp shard until) h = refl
 call_of_lem limit (prune now room) h = let m : min room limit ≡ room = omega arith in ap (prune now) m
+call_of_lem limit (bundle ws) h = refl
 
 -- every list of calls is held by some words
 pub decode-encode : (limit : ℕ) (cs : List Call) → Roomy limit cs → decode limit (encode cs) ≡ cs

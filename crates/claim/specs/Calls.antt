@@ -3,7 +3,7 @@ use Rattle.std.specs.Prelude.{ℕ, zero, suc, ◌+◌, ◌≤◌, min, ◌≡◌
 use Rattle.lists.specs.Lists.{Every}
 use Rattle.rules.specs.Plain.{Plain}
 use Rattle.rules.specs.Words.{word}
-use Rattle.rules.specs.Calls.{Call, admission, absence, certify, abandonment, settled, returned, closes, fated, finalization, forget, terminal, stamp, prune, step, run}
+use Rattle.rules.specs.Calls.{Call, admission, absence, certify, abandonment, settled, returned, closes, fated, finalization, forget, terminal, stamp, prune, bundle, step, run}
 use Rattle.ledger.specs.declared.Ledger.{Ledger}
 use Rattle.ledger.specs.Contents.{contents, Held}
 use Rattle.ledger.specs.Meets.{written}
@@ -33,6 +33,7 @@ kind_of (forget t) = 10
 kind_of (terminal shard cut is_stamped until) = 11
 kind_of (stamp shard until) = 12
 kind_of (prune now room) = 13
+kind_of (bundle ws) = 14
 
 abbrev pub lent_to : Call → ℕ
 lent_to (admission ws) = 0
@@ -48,6 +49,7 @@ lent_to (forget t) = 0
 lent_to (terminal shard cut is_stamped until) = 0
 lent_to (stamp shard until) = 0
 lent_to (prune now room) = room
+lent_to (bundle ws) = 0
 
 abbrev pub words_of : Call → List ℕ
 words_of (admission ws) = ws
@@ -63,6 +65,7 @@ words_of (forget t) = t ∷ []
 words_of (terminal shard cut is_stamped until) = shard ∷ cut ∷ is_stamped ∷ until ∷ []
 words_of (stamp shard until) = shard ∷ until ∷ []
 words_of (prune now room) = now ∷ []
+words_of (bundle ws) = ws
 
 abbrev pub encode : List Call → List ℕ
 encode [] = []

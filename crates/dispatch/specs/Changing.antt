@@ -2,13 +2,13 @@
 use Rattle.std.specs.Prelude.{ℕ, zero, suc, ◌≡◌, cond, List, map, eqb}
 use Rattle.rules.specs.Plain.{Plain}
 use Rattle.rules.specs.Words.{word}
-use Rattle.rules.specs.Calls.{Call, admission, absence, certify, abandonment, settled, returned, closes, fated, finalization, forget, terminal, stamp, prune, step}
+use Rattle.rules.specs.Calls.{Call, admission, absence, certify, abandonment, settled, returned, closes, fated, finalization, forget, terminal, stamp, prune, bundle, step}
 use Rattle.ledger.specs.declared.Ledger.{Ledger}
 use Rattle.ledger.specs.declared.Done.{Done}
 use Rattle.ledger.specs.Contents.{contents}
 use Rattle.ledger.specs.Meets.{Meets, says}
 
--- words that are missing count as 0; 13 and every other number is a prune
+-- words that are missing count as 0; 14 is a bundle, 13 and every other number a prune
 unfoldable pub call_of : ℕ → List ℕ → ℕ → Call
 call_of kind ws room =
     cond (eqb kind 1) (admission ws)
@@ -23,7 +23,8 @@ call_of kind ws room =
     (cond (eqb kind 10) (forget (word 0 ws))
     (cond (eqb kind 11) (terminal (word 0 ws) (word 1 ws) (word 2 ws) (word 3 ws))
     (cond (eqb kind 12) (stamp (word 0 ws) (word 1 ws))
-    (prune (word 0 ws) room))))))))))))
+    (cond (eqb kind 14) (bundle ws)
+    (prune (word 0 ws) room)))))))))))))
 
 -- the plain ledger after so many turns of a call, each on the ledger that the last handed back
 abbrev pub after : ℕ → Call → Plain → Plain

@@ -1,55 +1,18 @@
--- A bundle does what its calls do one by one, in the order of their kinds; it keeps what every reachable ledger has.
+-- A bundle does what its calls do one by one, in the order of their kinds.
 -- Assumes nothing.
 use Prim.Native.Nat.{ℕ, zero, suc, ◌+◌}
 use mathlib.Core.Path.{◌≡◌, refl, sym, ap, ap₂, subst, ◌∙◌}
-use mathlib.Core.Bool.{Bool, true, false, cond}
+use mathlib.Core.Bool.{cond}
 use mathlib.Core.List.{List, [], ◌∷◌, map}
 use native.Mathlib.Omega.{arith}
-use lib.Dec.{eqb}
-use lib.ListN.{length, drop}
-use Rattle.lists.specs.Lists.{keep, Every, through, total, self, cut}
-use Rattle.lists.proofs.Keep.{every_keep, every_always, every_concat_map}
-use Rattle.lists.proofs.Parts.{every_take, every_drop, every_zip_by}
-use Rattle.lists.proofs.Items.{through_keeps}
-use Rattle.rules.specs.Numbers.{is_word}
+use Rattle.lists.specs.Lists.{through, total, self}
 use Rattle.rules.specs.Plain.{Plain}
-use Rattle.rules.specs.Words.{word, transaction_size, transaction_at, Item, is_kind, items_at, item_kinds, item_lengths, items_written, bundle_whole, bundle_known, bundle_measured, bundle_items}
+use Rattle.rules.specs.Words.{Item, is_kind, bundle_whole, bundle_known, bundle_measured, bundle_items}
 use Rattle.rules.specs.Outcome.{if_done}
-use Rattle.rules.specs.Calls.{Call, absence, abandonment, finalization, admission, terminal, step, run, after_certify, after_item, with_item, items_refusal, answered_by, bundle_refusal, after_bundle, refused_call, item_call}
-use Rattle.rules.specs.Good.{Holds, Good, OfWords}
+use Rattle.rules.specs.Calls.{step, run, after_item, with_item, items_refusal, answered_by, bundle_refusal, after_bundle, item_call}
 use Rattle.rules.specs.Reached.{Accepted, FirstRefused, calls_answer, AsItems}
-use Rattle.rules.proofs.Taken.{words-at}
-use Rattle.rules.proofs.Kept.{unless-good, unless-refused, unless-none, tested, step-good}
-
--- an item's outcome is its call's
-item-step : (i : Item) (p : Plain) → after_item i p ≡ step (item_call i) p
-unfolding after_certify
-item-step i p =
-    go (is_kind 1 i) (is_kind 2 i) (is_kind 3 i) (is_kind 4 i) (eqb (length i.words) 4) (eqb (length i.words) (transaction_size + 2))
-  where
-    ws : List ℕ
-    ws = i.words
-
-    filed : Call
-    filed = terminal (word 0 ws) (word 1 ws) (word 2 ws) (word 3 ws)
-
-    read : Call
-    read = absence (transaction_at 0 ws) (word transaction_size ws) (word (transaction_size + 1) ws)
-
-    go : (a b c d x y : Bool) →
-        cond a (cond x (step filed p) (step refused_call p))
-        (cond b (step (abandonment ws) p) (cond c (step (finalization ws) p) (cond d (step (admission ws) p) (cond y (step read p) (step refused_call p)))))
-        ≡ step (cond a (cond x filed refused_call) (cond b (abandonment ws) (cond c (finalization ws) (cond d (admission ws) (cond y read refused_call))))) p
-    go true b c d true y = refl
-    go true b c d false y = refl
-    go false true c d x y = refl
-    go false false true d x y = refl
-    go false false false true x y = refl
-    go false false false false x true = refl
-    go false false false false x false = refl
-
-item-ledger : (i : Item) (p : Plain) → with_item i p ≡ (step (item_call i) p).ledger
-item-ledger i p = ap (λ o. o.ledger) (item-step i p)
+use Rattle.rules.proofs.Items.{item-step, item-ledger}
+use Rattle.rules.proofs.Kept.{unless-refused, unless-none, tested}
 
 -- items of a list
 items-run : (is : List Item) (p : Plain) → through with_item is p ≡ run (map item_call is) p
@@ -90,62 +53,17 @@ items-answer k (i ∷ is) p =
     ap₂ ◌+◌ (ap (λ o. cond (is_kind k i) (total self o.answers) 0) (item-step i p))
     (ap (answered_by k is) (item-ledger i p) ∙ items-answer k is (step (item_call i) p).ledger)
 
+-- where a bundle is not refused, no item is
+pub none_refused : (ws : List ℕ) (p : Plain) → bundle_refusal ws p ≡ 0 → items_refusal (bundle_items ws) p ≡ 0
+none_refused ws p e = (tested (bundle_measured ws) 10 _ (tested (bundle_known ws) 9 _ (tested (bundle_whole ws) 10 _ e).1).1).1
+
 pub as_items : (ws : List ℕ) (p : Plain) → (after_bundle ws p).refused ≡ 0 → AsItems ws p
 unfolding after_bundle
 as_items ws p h =
     let is = bundle_items ws in
     let e : bundle_refusal ws p ≡ 0 = sym (unless-refused (bundle_refusal ws p) p _ refl) ∙ h in
-    let none : items_refusal is p ≡ 0 = (tested (bundle_measured ws) 10 _ (tested (bundle_known ws) 9 _ (tested (bundle_whole ws) 10 _ e).1).1).1 in
     record {
-      accepted = items-accepted is p none;
+      accepted = items-accepted is p (none_refused ws p e);
       left = ap (λ o. o.ledger) (unless-none (bundle_refusal ws p) p _ e) ∙ items-run is p;
       answers = ap (λ o. o.answers) (unless-none (bundle_refusal ws p) p _ e) ∙ ap₂ ◌∷◌ (items-answer 4 is p) (ap₂ (λ m n. m ∷ n ∷ []) (items-answer 2 is p) (items-answer 3 is p));
     }
-
--- What every reachable ledger has is kept. The words of an item are words of the bundle.
-abbrev OfWordsItem : Item → Type 0
-OfWordsItem i = Every (Holds is_word) i.words
-
-item-words : (i : Item) → OfWordsItem i → OfWords (item_call i)
-item-words i v = go (is_kind 1 i) (is_kind 2 i) (is_kind 3 i) (is_kind 4 i) (eqb (length i.words) 4) (eqb (length i.words) (transaction_size + 2))
-  where
-    ws : List ℕ
-    ws = i.words
-
-    go : (a b c d x y : Bool) →
-        OfWords (cond a (cond x (terminal (word 0 ws) (word 1 ws) (word 2 ws) (word 3 ws)) refused_call)
-        (cond b (abandonment ws) (cond c (finalization ws) (cond d (admission ws)
-        (cond y (absence (transaction_at 0 ws) (word transaction_size ws) (word (transaction_size + 1) ws)) refused_call)))))
-    go true b c d true y = tt
-    go true b c d false y = tt
-    go false true c d x y = v
-    go false false true d x y = tt
-    go false false false true x y = v
-    go false false false false x true = words-at (transaction_size + 1) ws v
-    go false false false false x false = tt
-
-item-good : (i : Item) (p : Plain) → OfWordsItem i → Good p → Good (with_item i p)
-item-good i p v g = subst Good (sym (item-ledger i p)) (step-good (item_call i) (item-words i v) p g)
-
-cut-words : (sizes ws : List ℕ) → Every (Holds is_word) ws → Every (Every (Holds is_word)) (cut sizes ws)
-cut-words [] ws v = tt
-cut-words (n ∷ ns) ws v = (every_take (Holds is_word) n ws v, cut-words ns (drop n ws) (every_drop (Holds is_word) n ws v))
-
-items-words : (ws : List ℕ) → Every (Holds is_word) ws → Every OfWordsItem (bundle_items ws)
-unfolding bundle_items
-items-words ws v =
-    every_concat_map OfWordsItem (λ k. keep (is_kind k) (items_written ws)) (λ k. every_keep OfWordsItem (is_kind k) (items_written ws) written) (1 ∷ 2 ∷ 3 ∷ 4 ∷ 5 ∷ [])
-  where
-    joined : List ℕ
-    joined = drop (items_at ws) ws
-
-    written : Every OfWordsItem (items_written ws)
-    written =
-        every_zip_by (λ k. Unit {0}) (Every (Holds is_word)) OfWordsItem (λ (k : ℕ) (l : List ℕ). record { kind = k; words = l }) (λ k l _ w. w) (item_kinds ws)
-        (cut (item_lengths ws) joined) (every_always _ (λ k. tt) (item_kinds ws)) (cut-words (item_lengths ws) joined (every_drop (Holds is_word) (items_at ws) ws v))
-
-pub bundle_kept : (ws : List ℕ) (p : Plain) → Every (Holds is_word) ws → Good p → Good (after_bundle ws p).ledger
-unfolding after_bundle
-bundle_kept ws p v g =
-    unless-good Good (bundle_refusal ws p) p _ g
-    (λ _. through_keeps with_item OfWordsItem Good item-good (bundle_items ws) (items-words ws v) p g)

@@ -14,7 +14,7 @@ use Rattle.rules.specs.Plain.{Entry, Departure, Plain, transaction_of, shard_of,
 use Rattle.rules.specs.Prune.{holds}
 use Rattle.rules.specs.Calls.{Call, step, run}
 use Rattle.rules.specs.Good.{Good, OfWords}
-use Rattle.rules.specs.LeftOut.{fallen_in, dropped_in, touch, bare, Omitted, none_yet, after, is_for_room, Clear, Unheld, Apart, AllApart, apart_tests, all_apart, Unseen}
+use Rattle.rules.specs.LeftOut.{fallen_in, dropped_in, touch, bare, Omitted, none_yet, after, is_for_room, Clear, Unheld, Apart, calls_of, EachApart, AllApart, apart_tests, each_tests, all_apart, Unseen}
 use Rattle.rules.proofs.LeftOut.{left_out}
 
 apart_test : (o : Omitted) (c : Call) (p : Plain) → all_of (apart_tests o c p) ≡ true → Apart o c p
@@ -37,11 +37,16 @@ apart_test o c p h =
         has shard_of (shard_of d) p.departures ≡ false → Unheld o.taken p d
     unheld d t f = all_fail (holds p.local d) (fallen_in o.taken p) (rw f at t)
 
+each_apart_test : (o : Omitted) (cs : List Call) (p : Plain) → all (λ ts. all_of ts) (each_tests o cs p) ≡ true → EachApart o cs p
+each_apart_test o [] p h = tt
+each_apart_test o (c ∷ cs) p h =
+    (apart_test o c p (and_left (all_of (apart_tests o c p)) _ h), λ r. each_apart_test o cs (step c p).ledger (rw r at (and_right (all_of (apart_tests o c p)) _ h)))
+
 pub all_apart_test : (o : Omitted) (u : ℕ) (cs : List Call) (p : Plain) → all_apart o u cs p ≡ true → AllApart o u cs p
 all_apart_test o u [] p h = leb-true o.clock u h
 all_apart_test o u (c ∷ cs) p h = (
-  apart_test o c p (and_left (all_of (apart_tests o c p)) _ h),
-  all_apart_test (after c p o) u cs (run (bare (c ∷ [])) p) (and_right (all_of (apart_tests o c p)) _ h),
+  each_apart_test o (calls_of c) p (and_left (all (λ ts. all_of ts) (each_tests o (calls_of c) p)) _ h),
+  all_apart_test (after c p o) u cs (run (bare (c ∷ [])) p) (and_right (all (λ ts. all_of ts) (each_tests o (calls_of c) p)) _ h),
 )
 
 pub judged : (u : ℕ) (cs : List Call) → Every OfWords cs → (p : Plain) → Good p → all_apart none_yet u cs p ≡ true → Unseen u cs p

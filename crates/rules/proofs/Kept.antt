@@ -14,15 +14,17 @@ use Rattle.lists.proofs.Tests.{and_left, and_right, by_cond, cond_same, cond_bot
 use Rattle.lists.proofs.Keep.{length-keep, length-change_if, every_keep, keep_same, each_of}
 use Rattle.lists.proofs.Order.{ascending-keep, ascending-change_if, ascending-include, ascending-include_all, every_include, length-include, length-include_new, include-known}
 use Rattle.lists.proofs.Change.{every_change, has-change, has-include, new_include_known, new_include}
+use Rattle.lists.proofs.Items.{through_keeps}
 use Rattle.rules.specs.Numbers.{is_word, is_time, is_shard, is_span, max_entries, max_absences, max_departures, max_count}
 use Rattle.rules.specs.Plain.{Part, whole, leg, core, remainder, Terms, Absence, Entry, Departure, Plain, is_core, is_settling, transaction_of, absence_key, shard_of, empty, with_entries, with_departures, with_rebuilt, owed, entry_of, issues, owes}
-use Rattle.rules.specs.Words.{decomposed, admission_terms, admission_formed, admission_timed, admission_placed, record_shard, record_groups, record_formed, record_timed, finalization_lines, deciding, Line}
+use Rattle.rules.specs.Words.{word, transaction_size, transaction_at, decomposed, admission_terms, admission_formed, admission_timed, admission_placed, record_shard, record_groups, record_formed, record_timed, finalization_lines, deciding, Line, Item, bundle_items}
 use Rattle.rules.specs.Entries.{admitted, rebuilt, with_part, with_certificate, with_departed_by, with_marks, is_read, read_absent, certified, marked, is_closed, with_group, with_groups, rebuilt_by, skip, resolve, release, ruling, ruled, with_lines}
 use Rattle.rules.specs.Prune.{survivors, pruned, stands, remains}
 use Rattle.rules.specs.Outcome.{Outcome, unless, ◌gives◌then◌}
-use Rattle.rules.specs.Calls.{Call, admission, absence, certify, abandonment, settled, returned, closes, fated, finalization, forget, terminal, stamp, prune, step, run, making, making_refusal, unowed, no_room_for, admission_refusal, after_admission, is_new, is_full, absence_refusal, after_absence, certify_refusal, after_certify, abandonment_refusal, after_abandonment, after_mark, closes_refusal, after_closes, is_fated, after_fated, finalization_refusal, after_finalization, after_forget, first_stamp, stamped, departed, terminal_refusal, after_terminal, stamp_refusal, after_stamp, prune_refusal, after_prune}
+use Rattle.rules.specs.Calls.{Call, admission, absence, certify, abandonment, settled, returned, closes, fated, finalization, forget, terminal, stamp, prune, bundle, step, run, making, making_refusal, unowed, no_room_for, admission_refusal, after_admission, is_new, is_full, absence_refusal, after_absence, certify_refusal, after_certify, abandonment_refusal, after_abandonment, after_mark, closes_refusal, after_closes, is_fated, after_fated, finalization_refusal, after_finalization, after_forget, first_stamp, stamped, departed, terminal_refusal, after_terminal, stamp_refusal, after_stamp, prune_refusal, after_prune, with_item, bundle_refusal, after_bundle}
 use Rattle.rules.specs.Good.{Holds, GoodAbsence, Marked, GoodPart, is_departed_by, GoodEntry, GoodStamp, GoodDeparture, GoodRows, GoodFile, GoodEntries, GoodDepartures, Good, OfWords}
-use Rattle.rules.proofs.Taken.{admitted-good, GoodGroup, groups_good, rebuilt-good}
+use Rattle.rules.proofs.Items.{by_item, OfWordsItem, items-words}
+use Rattle.rules.proofs.Taken.{words-at, admitted-good, GoodGroup, groups_good, rebuilt-good}
 
 -- The refusal table.
 
@@ -413,6 +415,26 @@ prune-kept : (now room : ℕ) (p : Plain) → Good p → Good (after_prune now r
 unfolding after_prune
 prune-kept now room p g = unless-good Good (prune_refusal now room p) p _ g λ e. pruned-kept now p g
 
+-- Bundle: each of its items keeps it.
+pub item-good : (i : Item) (p : Plain) → OfWordsItem i → Good p → Good (with_item i p)
+item-good i p v g =
+    by_item (λ c f. Good (f p).ledger) i
+    (terminal-kept (word 0 ws) (word 1 ws) (word 2 ws) (word 3 ws) p g)
+    (abandonment-kept ws p v g)
+    (finalization-kept ws p g)
+    (admission-kept ws p v g)
+    (absence-kept (transaction_at 0 ws) (record { shard = word transaction_size ws; key = word (transaction_size + 1) ws }) p (words-at (transaction_size + 1) ws v) g)
+    (finalization-kept [] p g)
+  where
+    ws : List ℕ
+    ws = i.words
+
+pub bundle_kept : (ws : List ℕ) (p : Plain) → Every (Holds is_word) ws → Good p → Good (after_bundle ws p).ledger
+unfolding after_bundle
+bundle_kept ws p v g =
+    unless-good Good (bundle_refusal ws p) p _ g
+    (λ _. through_keeps with_item OfWordsItem Good item-good (bundle_items ws) (items-words ws v) p g)
+
 -- every step keeps a good ledger good
 pub step-good : (c : Call) → OfWords c → (p : Plain) → Good p → Good (step c p).ledger
 step-good (admission ws) w p g = admission-kept ws p w g
@@ -428,6 +450,7 @@ step-good (forget t) w p g = forget-kept t p g
 step-good (terminal shard cut is_stamped until) w p g = terminal-kept shard cut is_stamped until p g
 step-good (stamp shard until) w p g = stamp-kept shard until p g
 step-good (prune now room) w p g = prune-kept now room p g
+step-good (bundle ws) w p g = bundle_kept ws p w g
 
 pub run-good : (cs : List Call) → Every OfWords cs → (p : Plain) → Good p → Good (run cs p)
 run-good [] v p g = g

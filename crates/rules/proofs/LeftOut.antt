@@ -7,13 +7,13 @@ use mathlib.Core.Bool.{true, false, false≢true}
 use mathlib.Core.List.{List, [], ◌∷◌, ◌++◌, append-nil, append_assoc}
 use native.Mathlib.Omega.{arith}
 use lib.ListN.{length}
-use Rattle.lists.specs.Lists.{Every, filled, has}
-use Rattle.rules.specs.Plain.{Plain, transaction_of, shard_of, owed}
+use Rattle.lists.specs.Lists.{Every, filled}
+use Rattle.rules.specs.Plain.{Plain}
 use Rattle.rules.specs.Prune.{Report, fallen, reports, pruned, in_order}
 use Rattle.rules.specs.Outcome.{said, if_done}
-use Rattle.rules.specs.Calls.{Call, admission, absence, certify, abandonment, settled, returned, closes, fated, finalization, forget, terminal, stamp, prune, step, run, prune_refusal, after_prune}
+use Rattle.rules.specs.Calls.{Call, admission, absence, certify, abandonment, settled, returned, closes, fated, finalization, forget, terminal, stamp, prune, bundle, step, run, prune_refusal, after_prune}
 use Rattle.rules.specs.Good.{Good, OfWords}
-use Rattle.rules.specs.LeftOut.{Taking, taken_at, less, touch, bare, Omitted, none_yet, is_for_room, Clear, Unheld, Apart, AllApart, all_said, told_by, all_told, gone_by, all_gone, said_less, all_said_less, closed_fallen, all_closed_fallen, Unseen, Alike}
+use Rattle.rules.specs.LeftOut.{taken_at, less, touch, bare, Omitted, none_yet, calls_of, EachApart, AllApart, all_said, told_by, all_told, gone_by, all_gone, said_less, all_said_less, closed_fallen, all_closed_fallen, Unseen, Alike}
 use Rattle.rules.proofs.Kept.{unless-refused, unless-none, unless_some, step-good}
 use Rattle.rules.proofs.Ordered.{in_order_first}
 use Rattle.rules.proofs.Less.{Felled, Beside, pruned-less, told-less, gone-less, room_later, pruned_first, beside_first, less-nothing, beside_nothing}
@@ -21,32 +21,29 @@ use Rattle.rules.proofs.Moved.{Moved, Saying}
 use Rattle.rules.proofs.ApartEntries.{forget_paired, fated_paired, certify_paired, absence_paired, mark_paired, admission_paired}
 use Rattle.rules.proofs.ApartItems.{finalization_paired, abandonment_paired}
 use Rattle.rules.proofs.ApartFiles.{closes_paired, stamp_paired, terminal_paired}
+use Rattle.rules.proofs.ApartBundle.{bundle_paired}
 
 -- A call that is no prune, on both ledgers.
-stepped : (o : Omitted) (fell : Felled) (p : Plain) → Beside o fell p → (c : Call) → OfWords c → (touch c).prunes ≡ [] → Apart o c p →
+stepped : (o : Omitted) (fell : Felled) (p : Plain) → Beside o fell p → (c : Call) → OfWords c → (touch c).prunes ≡ [] → EachApart o (calls_of c) p →
     Saying o fell (closed_fallen o.taken c p) (said_less o.taken c p) (step c (less o.taken p)) (step c p)
-stepped o fell p b c w z a = by c z a.named a.clear a.kept a.unheld (a.room (ap filled z)) (step-good c w p b.good)
+stepped o fell p b c w z a = by c w z a (step-good c w p b.good)
   where
-    k : Taking
-    k = o.taken
-
-    by : (c : Call) → (touch c).prunes ≡ [] → Every (λ x. k.is_fallen x ≡ false) (touch c).names →
-        Every (λ e. owed (transaction_of e) p ≡ false → Clear k p e) ((touch c).takes p.local) → Every (λ s. k.is_dropped s ≡ false) (touch c).shards →
-        Every (λ d. has shard_of (shard_of d) p.departures ≡ false → Unheld k p d) (touch c).files → is_for_room (step c p).refused ≡ false →
-        Good (step c p).ledger → Saying o fell (closed_fallen k c p) (said_less k c p) (step c (less k p)) (step c p)
-    by (admission ws) z n c f v r g = admission_paired o fell p b ws n.0 c.0 r g
-    by (absence x shard key) z n c f v r g = absence_paired o fell p b x (record { shard = shard; key = key }) n.0 g
-    by (certify x code) z n c f v r g = certify_paired o fell p b x code n.0 g
-    by (abandonment ws) z n c f v r g = abandonment_paired o fell p b ws n c f.0 r g
-    by (settled s x) z n c f v r g = mark_paired o fell p b s x false g
-    by (returned s x) z n c f v r g = mark_paired o fell p b s x true g
-    by (closes room) z n c f v r g = closes_paired o fell p b room r g
-    by (fated x) z n c f v r g = fated_paired o fell p b x n.0 g
-    by (finalization ws) z n c f v r g = finalization_paired o fell p b ws n g
-    by (forget x) z n c f v r g = forget_paired o fell p b x n.0 g
-    by (terminal shard cut is_stamped until) z n c f v r g = terminal_paired o fell p b shard cut is_stamped until f.0 v.0 r g
-    by (stamp shard until) z n c f v r g = stamp_paired o fell p b shard until g
-    by (prune now room) z n c f v r g = absurd (false≢true (sym (ap filled z)))
+    by : (c : Call) → OfWords c → (touch c).prunes ≡ [] → EachApart o (calls_of c) p → Good (step c p).ledger →
+        Saying o fell (closed_fallen o.taken c p) (said_less o.taken c p) (step c (less o.taken p)) (step c p)
+    by (admission ws) w z a g = admission_paired o fell p b ws a.0.named.0 a.0.clear.0 (a.0.room refl) g
+    by (absence x shard key) w z a g = absence_paired o fell p b x (record { shard = shard; key = key }) a.0.named.0 g
+    by (certify x code) w z a g = certify_paired o fell p b x code a.0.named.0 g
+    by (abandonment ws) w z a g = abandonment_paired o fell p b ws a.0.named a.0.clear a.0.kept.0 (a.0.room refl) g
+    by (settled s x) w z a g = mark_paired o fell p b s x false g
+    by (returned s x) w z a g = mark_paired o fell p b s x true g
+    by (closes room) w z a g = closes_paired o fell p b room (a.0.room refl) g
+    by (fated x) w z a g = fated_paired o fell p b x a.0.named.0 g
+    by (finalization ws) w z a g = finalization_paired o fell p b ws a.0.named g
+    by (forget x) w z a g = forget_paired o fell p b x a.0.named.0 g
+    by (terminal shard cut is_stamped until) w z a g = terminal_paired o fell p b shard cut is_stamped until a.0.kept.0 a.0.unheld.0 (a.0.room refl) g
+    by (stamp shard until) w z a g = stamp_paired o fell p b shard until g
+    by (prune now room) w z a g = absurd (false≢true (sym (ap filled z)))
+    by (bundle ws) w z a g = bundle_paired o fell p b ws w a g
 
 -- What follows a stage at which q, with the prunes, is p, without them, less what the last one took.
 record Following (o : Omitted) (fell : Felled) (u : ℕ) (cs : List Call) (q p : Plain) : Type 0 where
@@ -71,6 +68,7 @@ by_kind P f g (forget t) = g (forget t) refl
 by_kind P f g (terminal shard cut is_stamped until) = g (terminal shard cut is_stamped until) refl
 by_kind P f g (stamp shard until) = g (stamp shard until) refl
 by_kind P f g (prune now n) = f now n
+by_kind P f g (bundle ws) = g (bundle ws) refl
 
 module _ (u : ℕ) where
   -- the end of the calls
@@ -87,7 +85,7 @@ module _ (u : ℕ) where
       }
 
   -- a call that is no prune
-  other : (o : Omitted) (fell : Felled) (c : Call) (cs : List Call) (q p : Plain) → (touch c).prunes ≡ [] → OfWords c → Moved o fell q p → Apart o c p →
+  other : (o : Omitted) (fell : Felled) (c : Call) (cs : List Call) (q p : Plain) → (touch c).prunes ≡ [] → OfWords c → Moved o fell q p → EachApart o (calls_of c) p →
       ((since : Felled) → Moved o since (step c q).ledger (step c p).ledger → Following o since u cs (step c q).ledger (step c p).ledger) →
       Following o fell u (c ∷ cs) q p
   other o fell c cs q p z w m a f =
@@ -176,7 +174,7 @@ module _ (u : ℕ) where
   pruning now n cs rest o fell q p m a = go (step (prune now n) (less o.taken p)).refused refl
     where
       go : (r : ℕ) → (step (prune now n) (less o.taken p)).refused ≡ r → Following o fell u (prune now n ∷ cs) q p
-      go zero t = omitted o fell now n cs q p m a.0.steady.0 t (λ m. rest _ _ _ _ m (rw t at a.1))
+      go zero t = omitted o fell now n cs q p m a.0.0.steady.0 t (λ m. rest _ _ _ _ m (rw t at a.1))
       go (suc r) t = refused o fell now n r cs q p m t (rest o fell q p m (rw t at a.1))
 
   calling : (c : Call) (cs : List Call) → (touch c).prunes ≡ [] → OfWords c → Onward cs → Onward (c ∷ cs)

@@ -1,4 +1,4 @@
--- The changing calls: making, the ten kinds of call on entries, terminal, stamp and prune. For each its line of the refusal
+-- The changing calls: making, the ten kinds of call on entries, terminal, stamp, prune and bundle. For each its line of the refusal
 -- table, from the top, and what it does where nothing is refused. A list that is lent is known by its length alone.
 use Rattle.std.specs.Prelude.{ℕ, ◌+◌, ◌-◌, min, Bool, true, false, cond, not, ◌&&◌, ◌||◌, List, [], ◌∷◌, ◌++◌, map, eqb, ltb, leb, length}
 use Rattle.std.proofs.Math.Option.{Option, none, some}
@@ -247,6 +247,7 @@ pub data Call : Type 0 where
   terminal : (shard cut stamped until : ℕ) → Call
   stamp : (shard until : ℕ) → Call
   prune : (now room : ℕ) → Call
+  bundle : (words : List ℕ) → Call
 
 abbrev pub step : Call → Plain → Outcome
 step (admission ws) p = after_admission ws p
@@ -262,15 +263,16 @@ step (forget t) p = after_forget t p
 step (terminal shard cut is_stamped until) p = after_terminal shard cut is_stamped until p
 step (stamp shard until) p = after_stamp shard until p
 step (prune now room) p = after_prune now room p
+step (bundle ws) p = after_bundle ws p
 
 -- the plain ledger after a list of calls
 abbrev pub run : List Call → Plain → Plain
 run [] p = p
 run (c ∷ cs) p = run cs (step c p).ledger
 
--- The call that an item is; one of a wrong length is a call that is refused by 5, whatever the ledger.
+-- The call that an item is; one of a wrong length is a call that is refused by 5, whatever the ledger, and names nothing.
 abbrev pub refused_call : Call
-refused_call = certify 0 3
+refused_call = finalization []
 
 abbrev pub item_call : Item → Call
 item_call i =

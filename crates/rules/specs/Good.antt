@@ -4,7 +4,7 @@ use Rattle.std.proofs.Math.Option.{Option, none, some}
 use Rattle.lists.specs.Lists.{Every, Ascending, has, filled, self}
 use Rattle.rules.specs.Numbers.{is_word, is_time, is_shard, is_span, max_entries, max_departures, max_routes, max_core, max_edges, max_destinations, max_absences, max_count}
 use Rattle.rules.specs.Plain.{Part, whole, leg, core, remainder, Edge, Terms, Absence, Entry, Departure, Plain, transaction_of, absence_key, shard_of, issues, owes}
-use Rattle.rules.specs.Calls.{Call, admission, absence, certify, abandonment, settled, returned, closes, fated, finalization, forget, terminal, stamp, prune}
+use Rattle.rules.specs.Calls.{Call, admission, absence, certify, abandonment, settled, returned, closes, fated, finalization, forget, terminal, stamp, prune, bundle}
 
 abbrev pub Holds : (ℕ → Bool) → ℕ → Type 0
 Holds test n = test n ≡ true
@@ -125,3 +125,4 @@ OfWords (forget t) = Unit {0}
 OfWords (terminal shard cut is_stamped until) = Unit {0}
 OfWords (stamp shard until) = Unit {0}
 OfWords (prune now room) = Unit {0}
+OfWords (bundle ws) = Every (Holds is_word) ws

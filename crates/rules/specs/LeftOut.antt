@@ -4,11 +4,11 @@ use Rattle.std.specs.Prelude.{ℕ, ◌+◌, ◌≤◌, ◌≡◌, Bool, true, fa
 use Rattle.std.proofs.Math.Option.{none}
 use Rattle.lists.specs.Lists.{cons_if, keep, all, all_of, filled, has, concat_map, total, Every}
 use Rattle.rules.specs.Plain.{Terms, Entry, Departure, Plain, transaction_of, shard_of, with_entries, with_departures, owed}
-use Rattle.rules.specs.Words.{admission_terms, record_shard, record_groups, Line, finalization_lines}
+use Rattle.rules.specs.Words.{admission_terms, record_shard, record_groups, Line, finalization_lines, bundle_items}
 use Rattle.rules.specs.Entries.{admitted, rebuilt}
 use Rattle.rules.specs.Prune.{Report, survivors, fallen, reports, holds, remains, pruned, in_order}
 use Rattle.rules.specs.Outcome.{said, if_done}
-use Rattle.rules.specs.Calls.{Call, admission, absence, certify, abandonment, settled, returned, closes, fated, finalization, forget, terminal, stamp, prune, closed, close_words, step, run}
+use Rattle.rules.specs.Calls.{Call, admission, absence, certify, abandonment, settled, returned, closes, fated, finalization, forget, terminal, stamp, prune, bundle, item_call, closed, close_words, step, run}
 
 -- What a prune takes: the transactions that fall, and the shards whose departures it drops.
 pub record Taking : Type 0 where
@@ -62,7 +62,7 @@ abbrev pruning : ℕ → Touch
 pruning now = record { names = []; takes = λ local. []; shards = []; files = []; lists = false; prunes = now ∷ [] }
 
 -- A mark may be on a fallen entry and a stamp on a dropped departure: by a mark nothing stands or is reported, and by a stamp nothing
--- stands that did not.
+-- stands that did not. What a bundle touches, the calls of its items do.
 abbrev pub touch : Call → Touch
 touch (admission ws) = bringing ((admission_terms ws).transaction ∷ []) (λ local. admitted local ws ∷ []) []
 touch (absence t shard key) = naming (t ∷ [])
@@ -78,6 +78,7 @@ touch (forget t) = naming (t ∷ [])
 touch (terminal shard cut is_stamped until) = filing (record { shard = shard; cut = cut; stamp = none } ∷ [])
 touch (stamp shard until) = filing []
 touch (prune now room) = pruning now
+touch (bundle ws) = naming []
 
 -- the calls without the prunes
 abbrev pub is_prune : Call → Bool
@@ -128,10 +129,21 @@ pub record Apart (o : Omitted) (c : Call) (p : Plain) : Type 0 where
   -- a prune is not before the last
   pub steady : Every (λ now. o.clock ≤ now) (touch c).prunes
 
+-- the calls of which a call is made: a bundle of its items', any other of itself
+abbrev pub calls_of : Call → List Call
+calls_of (bundle ws) = map item_call (bundle_items ws)
+calls_of c = c ∷ []
+
+-- Of these each, on the ledger that the one before it leaves: what is released there may be taken in anew. Those behind one that is refused
+-- are not made.
+abbrev pub EachApart : Omitted → List Call → Plain → Type 0
+EachApart o [] p = Unit {0}
+EachApart o (c ∷ cs) p = Apart o c p × ((step c p).refused ≡ 0 → EachApart o cs (step c p).ledger)
+
 -- each call of a list, on the ledger that those before it reach without the prunes; and the prune at u that comes last
 abbrev pub AllApart : Omitted → ℕ → List Call → Plain → Type 0
 AllApart o u [] p = o.clock ≤ u
-AllApart o u (c ∷ cs) p = Apart o c p × AllApart (after c p o) u cs (run (bare (c ∷ [])) p)
+AllApart o u (c ∷ cs) p = EachApart o (calls_of c) p × AllApart (after c p o) u cs (run (bare (c ∷ [])) p)
 
 -- the same, computed
 abbrev pub apart_tests : Omitted → Call → Plain → List Bool
@@ -144,9 +156,13 @@ apart_tests o c p =
     ∷ all (λ now. leb o.clock now) (touch c).prunes
     ∷ []
 
+abbrev pub each_tests : Omitted → List Call → Plain → List (List Bool)
+each_tests o [] p = []
+each_tests o (c ∷ cs) p = apart_tests o c p ∷ if_done (step c p).refused (each_tests o cs (step c p).ledger) []
+
 abbrev pub all_apart : Omitted → ℕ → List Call → Plain → Bool
 all_apart o u [] p = leb o.clock u
-all_apart o u (c ∷ cs) p = all_of (apart_tests o c p) && all_apart (after c p o) u cs (run (bare (c ∷ [])) p)
+all_apart o u (c ∷ cs) p = all (λ ts. all_of ts) (each_tests o (calls_of c) p) && all_apart (after c p o) u cs (run (bare (c ∷ [])) p)
 
 -- What the calls of a list say, each its refusal, its answers and the words that it writes; the prunes made, but their reports told apart.
 abbrev pub all_said : List Call → Plain → List (List ℕ)

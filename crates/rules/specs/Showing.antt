@@ -1,15 +1,16 @@
 -- Prunes that were left out, on closed examples: calls of every kind that stay apart, where nothing shows, and for each hypothesis calls
 -- that fail it alone, where it shows. Local 4, V 100, C 50, L 200. Scripts of the same kind, run on the Rust too, are in beside/instances/left-out.calls.
-use Rattle.std.specs.Prelude.{ℕ, zero, suc, ◌+◌, ◌^◌, ◌≡◌, refl, Bool, cond, List, [], ◌∷◌, ◌++◌, map, leb, length}
+use Rattle.std.specs.Prelude.{ℕ, suc, ◌+◌, ◌^◌, ◌≡◌, refl, Bool, cond, List, [], ◌∷◌, ◌++◌, map, leb, length}
 use Prim.Native.String.{String}
 use Rattle.lists.specs.Lists.{concat_map}
 use Rattle.rules.specs.Numbers.{depth, owns}
 use Rattle.rules.specs.Plain.{Plain}
-use Rattle.rules.specs.Words.{admission_terms, admission_formed, admission_timed, admission_placed, record_groups, record_formed, record_timed, finalization_lines, deciding, finalization_formed}
+use Rattle.rules.specs.Words.{admission_terms, admission_formed, admission_timed, admission_placed, record_groups, record_formed, record_timed, finalization_lines, deciding, finalization_formed, bundle_whole, bundle_known, bundle_measured, bundle_items}
 use Rattle.rules.specs.Prune.{Report, report_words, rule_of, survivors, fallen, reports, pruned, in_order}
 use Rattle.rules.specs.Entries.{admitted}
-use Rattle.rules.specs.Calls.{Call, admission, absence, certify, abandonment, settled, closes, fated, finalization, forget, terminal, stamp, prune, run, making, after_admission, after_absence, after_certify, after_abandonment, after_mark, after_closes, after_fated, after_finalization, after_forget, after_terminal, after_stamp, after_prune}
-use Rattle.rules.specs.LeftOut.{dropped, Omitted, none_yet, after, bare, apart_tests, all_said, all_told, all_gone, all_said_less, all_closed_fallen}
+use Rattle.rules.specs.Calls.{Call, admission, absence, certify, abandonment, settled, closes, fated, finalization, forget, terminal, stamp, prune, bundle, run, making, after_admission, after_absence, after_certify, after_abandonment, after_mark, after_closes, after_fated, after_finalization, after_forget, after_terminal, after_stamp, after_prune, after_bundle}
+use Rattle.rules.specs.Bundles.{up_to, bundle_of, absence_on, admission_of, line_of, terminal_of, record_of}
+use Rattle.rules.specs.LeftOut.{dropped, Omitted, none_yet, after, bare, calls_of, each_tests, all_said, all_told, all_gone, all_said_less, all_closed_fallen}
 
 -- A row: the calls before, the calls with their prunes, the clock of the last prune; which tests fail, by their places from 1; then what the
 -- calls say, the words of all reports, how many fell (or closed before), and how many entries and departures are left, with the prunes and
@@ -29,7 +30,7 @@ failed n (b ∷ bs) = cond b [] (n ∷ []) ++ failed (suc n) bs
 
 abbrev all_failed : Omitted → ℕ → List Call → Plain → List ℕ
 all_failed o u [] p = cond (leb o.clock u) [] (6 ∷ [])
-all_failed o u (c ∷ cs) p = failed 1 (apart_tests o c p) ++ all_failed (after c p o) u cs (run (bare (c ∷ [])) p)
+all_failed o u (c ∷ cs) p = concat_map (failed 1) (each_tests o (calls_of c) p) ++ all_failed (after c p o) u cs (run (bare (c ∷ [])) p)
 
 abbrev shown : List (List ℕ) → List Report → ℕ → Plain → List ℕ
 shown ss rs n p = concat_map (λ s. s) ss ++ (concat_map report_words rs ++ (n ∷ length p.entries ∷ length p.departures ∷ []))
@@ -48,16 +49,15 @@ given r =
 abbrev stated : Row → List (List ℕ)
 stated r = r.fails ∷ r.with ∷ r.without ∷ []
 
-abbrev up_to : ℕ → List ℕ
-up_to zero = []
-up_to (suc n) = suc n ∷ up_to n
+-- whole, at 1000, end 2000, charge 77: a transaction with an anchor over a route, and the words of its admission; a transaction alone
+abbrev over_words : ℕ → ℕ → ℕ → List ℕ
+over_words t anchor route = 1 ∷ 0 ∷ 0 ∷ t ∷ 1000 ∷ 2000 ∷ anchor ∷ 77 ∷ 0 ∷ route ∷ []
 
--- whole, at 1000, end 2000, charge 77: a transaction with an anchor over a route; a transaction alone
 abbrev whole_over : ℕ → ℕ → ℕ → Call
-whole_over t anchor route = admission (1 ∷ 0 ∷ 0 ∷ t ∷ 1000 ∷ 2000 ∷ anchor ∷ 77 ∷ 0 ∷ route ∷ [])
+whole_over t anchor route = admission (over_words t anchor route)
 
 abbrev whole_alone : ℕ → Call
-whole_alone t = admission (0 ∷ 0 ∷ 0 ∷ t ∷ 1000 ∷ 2000 ∷ 10 ∷ 77 ∷ 0 ∷ [])
+whole_alone t = admission (admission_of t 1000)
 
 -- a leg at a time with one record of key 7; the same, settled
 abbrev leg_of : ℕ → ℕ → Call
@@ -66,8 +66,8 @@ leg_of t at = admission (0 ∷ 0 ∷ 1 ∷ t ∷ at ∷ 2000 ∷ 10 ∷ 77 ∷ 1
 abbrev settled_leg : ℕ → ℕ → List Call
 settled_leg t at = leg_of t at ∷ settled 7 t ∷ []
 
-abbrev record_of : ℕ → ℕ → Call
-record_of shard t = abandonment (1 ∷ shard ∷ 0 ∷ t ∷ 1000 ∷ 2000 ∷ 10 ∷ 77 ∷ [])
+abbrev recorded : ℕ → ℕ → Call
+recorded shard t = abandonment (record_of shard (t ∷ []))
 
 -- transaction 9 over shard 5's route, executed, with a departure of shard 5 readable until 30: at 31 it falls with a report, and the
 -- departure is dropped
@@ -88,7 +88,7 @@ apart =
     ∷ record {
       name = "a mark on a fallen leg, a stamp on a dropped departure, a record, closes that lists the leg where it was not pruned";
       made = leg_of 3 0 ∷ terminal 5 11 0 0 ∷ [];
-      calls = prune 200 144 ∷ settled 7 3 ∷ stamp 5 60 ∷ record_of 6 7 ∷ closes 2 ∷ [];
+      calls = prune 200 144 ∷ settled 7 3 ∷ stamp 5 60 ∷ recorded 6 7 ∷ closes 2 ∷ [];
       last = 200;
       fails = [];
       with = 0 ∷ 0 ∷ 0 ∷ 1 ∷ 0 ∷ 0 ∷ 7 ∷ 1 ∷ 77 ∷ 2 ∷ 0 ∷ 0 ∷ [];
@@ -111,6 +111,42 @@ apart =
       fails = [];
       with = 0 ∷ 1 ∷ 0 ∷ 0 ∷ 0 ∷ 1 ∷ 8 ∷ 0 ∷ 77 ∷ 9 ∷ 0 ∷ 77 ∷ 3 ∷ 0 ∷ 0 ∷ [];
       without = 0 ∷ 1 ∷ 0 ∷ 0 ∷ 0 ∷ 1 ∷ 8 ∷ 0 ∷ 77 ∷ 9 ∷ 0 ∷ 77 ∷ 3 ∷ 0 ∷ 0 ∷ [];
+    }
+    ∷ record {
+      name = "a bundle of each kind of item: one transaction is released and taken in anew";
+      made = whole_alone 1 ∷ departing;
+      calls = prune 31 144 ∷ bundle (bundle_of (5 ∷ 4 ∷ 3 ∷ 2 ∷ 1 ∷ []) (absence_on 1 ∷ admission_of 1 1000 ∷ line_of 1 ∷ record_of 6 (7 ∷ []) ∷ terminal_of 6 ∷ [])) ∷ [];
+      last = 1100;
+      fails = [];
+      with = 0 ∷ 1 ∷ 1 ∷ 1 ∷ 9 ∷ 0 ∷ 77 ∷ 1 ∷ 2 ∷ 1 ∷ [];
+      without = 0 ∷ 1 ∷ 1 ∷ 1 ∷ 9 ∷ 0 ∷ 77 ∷ 1 ∷ 2 ∷ 1 ∷ [];
+    }
+    ∷ record {
+      name = "a bundle on a full table, with room for its admission once its finalization is done";
+      made = map whole_alone (up_to 48);
+      calls = prune 31 144 ∷ bundle (bundle_of (4 ∷ 3 ∷ []) (admission_of 99 5000 ∷ line_of 1 ∷ [])) ∷ [];
+      last = 1100;
+      fails = [];
+      with = 0 ∷ 1 ∷ 0 ∷ 1 ∷ 47 ∷ 1 ∷ 0 ∷ [];
+      without = 0 ∷ 1 ∷ 0 ∷ 1 ∷ 47 ∷ 1 ∷ 0 ∷ [];
+    }
+    ∷ record {
+      name = "a bundle that is refused ahead of an item which names a fallen transaction";
+      made = whole_alone 9 ∷ [];
+      calls = prune 1100 144 ∷ bundle (bundle_of (3 ∷ 1 ∷ []) (line_of 9 ∷ terminal_of 0 ∷ [])) ∷ [];
+      last = 1100;
+      fails = [];
+      with = 4 ∷ 1 ∷ 0 ∷ 0 ∷ [];
+      without = 4 ∷ 1 ∷ 0 ∷ 0 ∷ [];
+    }
+    ∷ record {
+      name = "a bundle whose terminal is a word short, which names nothing: transaction 0 neither";
+      made = whole_alone 0 ∷ [];
+      calls = prune 1100 144 ∷ bundle (bundle_of (1 ∷ []) ((5 ∷ 11 ∷ 0 ∷ []) ∷ [])) ∷ [];
+      last = 1100;
+      fails = [];
+      with = 5 ∷ 1 ∷ 0 ∷ 0 ∷ [];
+      without = 5 ∷ 1 ∷ 0 ∷ 0 ∷ [];
     }
     ∷ []
 
@@ -146,7 +182,7 @@ showing =
     ∷ record {
       name = "kept, 3: a record of a shard whose departure would have been dropped, on an owed entry";
       made = whole_alone 9 ∷ terminal 5 11 0 0 ∷ [];
-      calls = prune 12 144 ∷ record_of 5 9 ∷ [];
+      calls = prune 12 144 ∷ recorded 5 9 ∷ [];
       last = 50;
       fails = 3 ∷ [];
       with = 0 ∷ 0 ∷ 9 ∷ 1 ∷ 77 ∷ 1 ∷ 0 ∷ 0 ∷ [];
@@ -163,7 +199,7 @@ showing =
     }
     ∷ record {
       name = "unheld, 4: the terminal for want of which a transfer would have fallen";
-      made = record_of 6 9 ∷ [];
+      made = recorded 6 9 ∷ [];
       calls = prune 0 144 ∷ terminal 6 11 0 0 ∷ [];
       last = 0;
       fails = 4 ∷ [];
@@ -181,7 +217,7 @@ showing =
     }
     ∷ record {
       name = "steady, 6: a last prune before the one left out";
-      made = record_of 6 9 ∷ terminal 6 11 1 30 ∷ [];
+      made = recorded 6 9 ∷ terminal 6 11 1 30 ∷ [];
       calls = prune 31 144 ∷ [];
       last = 30;
       fails = 6 ∷ [];
@@ -206,8 +242,26 @@ showing =
       with = 0 ∷ 0 ∷ 0 ∷ 0 ∷ [];
       without = 8 ∷ 0 ∷ 0 ∷ 0 ∷ [];
     }
+    ∷ record {
+      name = "named, 1, by an item of a bundle: a transfer that would have fallen is released, and counted";
+      made = whole_alone 9 ∷ [];
+      calls = prune 1100 144 ∷ bundle (bundle_of (3 ∷ []) (line_of 9 ∷ [])) ∷ [];
+      last = 1100;
+      fails = 1 ∷ [];
+      with = 0 ∷ 0 ∷ 0 ∷ 0 ∷ 1 ∷ 0 ∷ 0 ∷ [];
+      without = 0 ∷ 0 ∷ 0 ∷ 1 ∷ 0 ∷ 0 ∷ 0 ∷ [];
+    }
+    ∷ record {
+      name = "clear, 2, by an item of a bundle: an admission over such a route of a transaction that was owed until the item ahead of it";
+      made = whole_alone 9 ∷ terminal 5 11 1 30 ∷ [];
+      calls = prune 31 144 ∷ bundle (bundle_of (3 ∷ 4 ∷ []) (line_of 9 ∷ over_words 9 10 (2 ^ 62) ∷ [])) ∷ certify 9 2 ∷ [];
+      last = 50;
+      fails = 2 ∷ [];
+      with = 0 ∷ 1 ∷ 0 ∷ 1 ∷ 0 ∷ 0 ∷ 1 ∷ 0 ∷ [];
+      without = 0 ∷ 1 ∷ 0 ∷ 1 ∷ 0 ∷ 9 ∷ 0 ∷ 77 ∷ 1 ∷ 0 ∷ 0 ∷ [];
+    }
     ∷ []
 
 pub rows : map given (apart ++ showing) ≡ map stated (apart ++ showing)
-unfolding depth owns admission_terms admission_formed admission_timed admission_placed record_groups record_formed record_timed finalization_lines deciding finalization_formed rule_of survivors fallen dropped reports pruned admitted making after_admission after_absence after_certify after_abandonment after_mark after_closes after_fated after_finalization after_forget after_terminal after_stamp after_prune
+unfolding depth owns admission_terms admission_formed admission_timed admission_placed record_groups record_formed record_timed finalization_lines deciding finalization_formed bundle_whole bundle_known bundle_measured bundle_items rule_of survivors fallen dropped reports pruned admitted making after_admission after_absence after_certify after_abandonment after_mark after_closes after_fated after_finalization after_forget after_terminal after_stamp after_prune after_bundle
 rows = refl
