@@ -3,9 +3,10 @@
 
 use std::fmt;
 
-use reference::{Book, ENTRIES, Given, Reply, Runner, call_named};
+use reference::{ENTRIES, Reply, Runner};
 
 use crate::apart::{Failed, HYPOTHESES, Hypothesis, Made, Omitted, changes};
+use crate::bundles::contents;
 
 /// Stands before the calls that are made with the prunes and without; a prune and a dump end them.
 pub const MARK: &[u8] = b"# prunes left out";
@@ -169,7 +170,7 @@ impl Sides {
 
     /// A call that is no prune, on the bare ledger too.
     fn other(&mut self, line: &[u8]) {
-        let before = dump(&self.bare.book);
+        let before = contents(&self.bare.book);
         self.bare.take(line, &mut Vec::new());
         let (Some(made), Some(bare)) = (&self.made.reply, &self.bare.reply) else {
             return;
@@ -177,7 +178,7 @@ impl Sides {
         let expected = less(&self.omitted, bare);
         self.verdict.shown.answers |= said(made) != expected;
         self.closed += (said(bare).2.len() - expected.2.len()) as u64;
-        let changed = before != dump(&self.bare.book);
+        let changed = before != contents(&self.bare.book);
         let (fallen, dropped) = (&self.omitted.fallen, &self.omitted.dropped);
         let numbers = &self.bare.numbers;
         let (what, came) = match bare.call.name {
@@ -206,7 +207,7 @@ impl Sides {
         self.told.extend(rows(made, 3));
         self.told.sort();
         self.verdict.shown.reports = !rows(bare, 3).eq(self.told.iter().cloned());
-        self.verdict.shown.ledger = dump(&self.made.book) != dump(&self.bare.book);
+        self.verdict.shown.ledger = contents(&self.made.book) != contents(&self.bare.book);
         Some(())
     }
 }
@@ -243,18 +244,6 @@ fn less(omitted: &Omitted, bare: &Reply) -> (u64, Vec<u64>, Vec<Vec<u64>>) {
         answers = vec![words.len() as u64];
     }
     (status, answers, words)
-}
-
-fn dump(book: &Book) -> Vec<u64> {
-    let mut said = Vec::new();
-    let given = Given {
-        numbers: &[],
-        lent: &mut [],
-        said: &mut said,
-    };
-    let dump = call_named(b"dump").expect("a call of the table");
-    dump.make(&mut book.clone(), given).expect("never refused");
-    said
 }
 
 /// Pairs of one kind, and how many of them showed, and in what.

@@ -1,6 +1,6 @@
 //! Scripts that stop early or end oddly: lines that are none of the format's.
 
-use reference::{Call, MOST_LENT};
+use reference::{Call, MOST_LENT, MOST_NUMBERS};
 
 use crate::random::Random;
 use crate::scripts::Names;
@@ -92,7 +92,13 @@ fn spoilt_line(random: &mut Random, call: &Call) -> Vec<u8> {
             random.pick(&["x", "-1", "", "18446744073709551616"])
         ),
         16 => good.to_uppercase(),
-        _ => format!("{name}{}", " 0".repeat(random.between(2047, 2049) as usize)),
+        _ => {
+            let most = MOST_NUMBERS as u64;
+            let count = random.between(most - 1, most + 1) as usize;
+            let number = random.pick(&[" 0", " 18446744073709551615"]);
+            let lent = random.pick(&["", " lent 8192"]);
+            format!("{name}{}{lent}", number.repeat(count))
+        }
     };
     line.into_bytes()
 }
