@@ -36,6 +36,7 @@ fn main() -> ExitCode {
     }
     let port = options.port.clone().map(|program| Port {
         program,
+        arguments: &[],
         patience: PATIENCE,
     });
     let compared = match &port {
