@@ -56,19 +56,22 @@ pub enum Came {
     Marked,
     Stamped,
     Closed,
+    /// A bundle changed the bare ledger when a prune that takes something had been left out.
+    Bundled,
     Clockless,
     Short,
     /// Made where the prunes are, with a list that would be too short where none was made.
     Exact,
 }
 
-pub const CAME: [(Came, &str); 9] = [
+pub const CAME: [(Came, &str); 10] = [
     (Came::Fell, "an entry fell"),
     (Came::Dropped, "a departure was dropped"),
     (Came::Changed, "a later call changed the ledger"),
     (Came::Marked, "a mark on a fallen entry"),
     (Came::Stamped, "a stamp on a dropped departure"),
     (Came::Closed, "closes of a fallen entry"),
+    (Came::Bundled, "a later bundle changed the ledger"),
     (Came::Clockless, "a prune refused for its clock"),
     (Came::Short, "a prune refused for its list"),
     (Came::Exact, "a list too short but for prunes"),
@@ -181,14 +184,15 @@ impl Sides {
         let changed = before != contents(&self.bare.book);
         let (fallen, dropped) = (&self.omitted.fallen, &self.omitted.dropped);
         let numbers = &self.bare.numbers;
+        let taken = !fallen.is_empty() || !dropped.is_empty();
         let (what, came) = match bare.call.name {
             "settled" | "returned" => (Came::Marked, changed && fallen.contains(&numbers[1])),
             "stamp_terminal" => (Came::Stamped, changed && dropped.contains(&numbers[0])),
             "closes" => (Came::Closed, said(bare) != expected),
+            "bundle" => (Came::Bundled, changed && taken),
             _ => (Came::Changed, false),
         };
         self.verdict.note(what, came);
-        let taken = !fallen.is_empty() || !dropped.is_empty();
         self.verdict.note(Came::Changed, changed && taken);
     }
 
