@@ -3,10 +3,10 @@ BEGIN {
     meaning[1] = "the local shard is none"; meaning[2] = "a span is 0 or over 2^40"; meaning[3] = "a time is over 2^48 - 1"
     meaning[4] = "a shard is 0 or over 2^33 - 1"; meaning[5] = "the words or a code are not well formed"
     meaning[6] = "too few free entries"; meaning[7] = "eight absences stand already"; meaning[8] = "32 departures stand already"
-    meaning[9] = "the lent list is too short"
+    meaning[9] = "the lent list is too short"; meaning[10] = "an item is of an unknown kind"; meaning[11] = "the bundle's number, kinds and lengths do not make up its words"
     # how many numbers each call takes, -1 for any
     takes("new 4 register_committed -1 record_absence 3 certify 2 record_abandonment -1 settled 2 returned 2 closes 0 fated 1 release_resolved -1")
-    takes("forget 1 record_terminal 4 stamp_terminal 2 prune 1 questions 0 open_at 6 answers 7 past_deadline 1 issuers_of 1 claimants 2 counterparts 2")
+    takes("forget 1 record_terminal 4 stamp_terminal 2 prune 1 bundle -1 questions 0 open_at 6 answers 7 past_deadline 1 issuers_of 1 claimants 2 counterparts 2")
     takes("unstamped_departures 0 reach 1 abandonment_answers 1 is_covered 1 departed 1 executed 1 reaches_beyond 1 issued_by 2 local 0 rebuilt 0 dump 0 repeat 1")
     split("whole leg core remainder", parts, " ")
     while ((getline line < script) > 0) {
@@ -52,8 +52,8 @@ function reason(line,    w, k, i, many) {
         if (w[i] !~ /^[0-9]+$/) return "'" w[i] "' is no number"
         if (large(w[i], "18446744073709551615")) return w[i] " is over 2^64 - 1"
     }
-    if (many < k - 1 && large(w[k], "4096")) return "a list has at most 4,096 words"
-    if (many > 2048) return "a line has at most 2,048 numbers"
+    if (many < k - 1 && large(w[k], "8192")) return "a list has at most 8,192 words"
+    if (many > 8192) return "a line has at most 8,192 numbers"
     if (count[w[1]] >= 0 && many != count[w[1]]) return w[1] " takes " count[w[1]] (count[w[1]] == 1 ? " number" : " numbers") ", and here are " many
     if (w[1] == "repeat" && w[2] ~ /^0+$/) return "a repeat is from 1"
     return ""

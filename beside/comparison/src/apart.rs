@@ -7,6 +7,7 @@ use reference::{
     Book, Call, ENTRIES, FILLER, Given, Held, Holder, LAST_SHARD, Leaving, call_named,
 };
 
+use crate::items::{in_order, written};
 use crate::prunes::pruned;
 
 /// What is demanded of a call, in the order of the tests.
@@ -73,8 +74,31 @@ impl Omitted {
         Some(3 * reports.filter(|r| !self.fallen.contains(&r[0])).count())
     }
 
-    /// What the call fails on the bare ledger.
+    /// What the call fails on the bare ledger. A bundle fails what one of its items' calls does, each on the ledger that the one before leaves
+    /// there.
     pub fn failed(&self, made: &Made, bare: &Book) -> Failed {
+        if made.call.name != "bundle" {
+            return self.failed_alone(made, bare);
+        }
+        let mut failed = Failed::default();
+        let mut bare = bare.clone();
+        for item in in_order(written(made.numbers)) {
+            let (call, numbers) = item.call();
+            let item = Made {
+                call,
+                numbers: &numbers,
+                lent: 0,
+            };
+            let one = self.failed_alone(&item, &bare);
+            for (all, one) in failed.iter_mut().zip(one) {
+                *all |= one;
+            }
+            item.make_on(&mut bare);
+        }
+        failed
+    }
+
+    fn failed_alone(&self, made: &Made, bare: &Book) -> Failed {
         let held = bare.held();
         let touch = touch(made.call.name, made.numbers);
         let owed = |e: &Holder| bare.owes(e.transaction);
@@ -118,13 +142,16 @@ pub struct Made<'a> {
 impl Made<'_> {
     /// 0 or the refusal, if it were made there.
     pub fn status_on(&self, book: &Book) -> u64 {
+        self.make_on(&mut book.clone())
+    }
+
+    fn make_on(&self, book: &mut Book) -> u64 {
         let given = Given {
             numbers: self.numbers,
             lent: &mut vec![FILLER; self.lent],
             said: &mut Vec::new(),
         };
-        let made = self.call.make(&mut book.clone(), given);
-        made.err().unwrap_or(0)
+        self.call.make(book, given).err().unwrap_or(0)
     }
 }
 
@@ -156,6 +183,7 @@ pub fn changes(name: &str) -> bool {
             | "record_terminal"
             | "stamp_terminal"
             | "prune"
+            | "bundle"
     )
 }
 

@@ -4,20 +4,21 @@ use std::fmt;
 
 use reference::{Book, CALLS, Reply, Runner};
 
+use crate::bundles::Bundles;
 use crate::left_out::{LeftOut, Verdict};
 use crate::limits::Limits;
 use crate::prunes::{Judged, Prunes, Rule};
 use crate::series::{Listener, Pairs};
 
-const REFUSALS: usize = 10;
+const REFUSALS: usize = 12;
 const REMAINDER: u64 = 3;
 
 #[derive(Default)]
 pub struct Coverage {
     scripts: u64,
     malformed: u64,
-    /// For each call: how often each status, and how often a first answer other than 0.
-    calls: [([u64; REFUSALS], u64); CALLS.len()],
+    calls: Calls,
+    bundles: Bundles,
     prunes: Prunes,
     pairs: Pairs,
     left_out: LeftOut,
@@ -27,6 +28,15 @@ pub struct Coverage {
     remainders: u64,
 }
 
+/// For each call: how often each status, and how often a first answer other than 0.
+struct Calls([([u64; REFUSALS], u64); CALLS.len()]);
+
+impl Default for Calls {
+    fn default() -> Self {
+        Self([([0; REFUSALS], 0); CALLS.len()])
+    }
+}
+
 impl Coverage {
     /// Run a script on the Rust, append its answers and count what it reached.
     pub fn run(&mut self, script: &[u8], out: &mut Vec<u8>) {
@@ -34,7 +44,8 @@ impl Coverage {
         let mut runner = Runner::default();
         let mut listener = Listener::default();
         for line in script.split(|byte| *byte == b'\n') {
-            let watched = line.starts_with(b"prune") || line.starts_with(b"release");
+            let watched = [&b"prune"[..], b"release", b"bundle"];
+            let watched = watched.iter().any(|name| line.starts_with(name));
             let before = watched.then(|| runner.book.clone());
             if !runner.take(line, out) {
                 self.malformed += 1;
@@ -54,11 +65,15 @@ impl Coverage {
     /// How often the call of that name was refused with that number.
     pub fn refused(&self, name: &str, number: u64) -> u64 {
         let place = CALLS.iter().position(|call| call.name == name);
-        place.map_or(0, |place| self.calls[place].0[number as usize])
+        place.map_or(0, |place| self.calls.0[place].0[number as usize])
     }
 
     pub fn judged(&self, rule: Rule) -> Judged {
         self.prunes.by(rule)
+    }
+
+    pub fn bundles(&self) -> &Bundles {
+        &self.bundles
     }
 
     /// How often several prunes were set against one.
@@ -82,9 +97,13 @@ impl Coverage {
 
     fn count(&mut self, reply: &Reply, before: Option<Book>, runner: &Runner) {
         let place = CALLS.iter().position(|call| call.name == reply.call.name);
-        let (statuses, said) = &mut self.calls[place.expect("a reply is some call's")];
+        let (statuses, said) = &mut self.calls.0[place.expect("a reply is some call's")];
         statuses[reply.status as usize] += 1;
         *said += u64::from(reply.said.first().is_some_and(|word| *word != 0));
+        if let ("bundle", Some(before)) = (reply.call.name, &before) {
+            self.bundles
+                .count(&runner.numbers, reply, before, &runner.book);
+        }
         if reply.status != 0 {
             return;
         }
@@ -133,13 +152,14 @@ impl fmt::Display for Coverage {
             f,
             "call                  accepted  said more than 0   refused (number: how often)"
         )?;
-        for (call, (statuses, said)) in CALLS.iter().zip(&self.calls) {
+        for (call, (statuses, said)) in CALLS.iter().zip(&self.calls.0) {
             write!(f, "{:<21} {:>8} {:>17}  ", call.name, statuses[0], said)?;
             for (number, count) in statuses.iter().enumerate().skip(1).filter(|(_, n)| **n > 0) {
                 write!(f, " {number}: {count}")?;
             }
             writeln!(f)?;
         }
+        writeln!(f, "{}", self.bundles)?;
         writeln!(f, "{}", self.prunes)?;
         let Pairs {
             equal,

@@ -3,9 +3,10 @@
 
 use std::fmt;
 
-use reference::{Book, ENTRIES, Given, Reply, Runner, call_named};
+use reference::{ENTRIES, Reply, Runner};
 
 use crate::apart::{Failed, HYPOTHESES, Hypothesis, Made, Omitted, changes};
+use crate::bundles::contents;
 
 /// Stands before the calls that are made with the prunes and without; a prune and a dump end them.
 pub const MARK: &[u8] = b"# prunes left out";
@@ -55,19 +56,22 @@ pub enum Came {
     Marked,
     Stamped,
     Closed,
+    /// A bundle changed the bare ledger when a prune that takes something had been left out.
+    Bundled,
     Clockless,
     Short,
     /// Made where the prunes are, with a list that would be too short where none was made.
     Exact,
 }
 
-pub const CAME: [(Came, &str); 9] = [
+pub const CAME: [(Came, &str); 10] = [
     (Came::Fell, "an entry fell"),
     (Came::Dropped, "a departure was dropped"),
     (Came::Changed, "a later call changed the ledger"),
     (Came::Marked, "a mark on a fallen entry"),
     (Came::Stamped, "a stamp on a dropped departure"),
     (Came::Closed, "closes of a fallen entry"),
+    (Came::Bundled, "a later bundle changed the ledger"),
     (Came::Clockless, "a prune refused for its clock"),
     (Came::Short, "a prune refused for its list"),
     (Came::Exact, "a list too short but for prunes"),
@@ -169,7 +173,7 @@ impl Sides {
 
     /// A call that is no prune, on the bare ledger too.
     fn other(&mut self, line: &[u8]) {
-        let before = dump(&self.bare.book);
+        let before = contents(&self.bare.book);
         self.bare.take(line, &mut Vec::new());
         let (Some(made), Some(bare)) = (&self.made.reply, &self.bare.reply) else {
             return;
@@ -177,17 +181,18 @@ impl Sides {
         let expected = less(&self.omitted, bare);
         self.verdict.shown.answers |= said(made) != expected;
         self.closed += (said(bare).2.len() - expected.2.len()) as u64;
-        let changed = before != dump(&self.bare.book);
+        let changed = before != contents(&self.bare.book);
         let (fallen, dropped) = (&self.omitted.fallen, &self.omitted.dropped);
         let numbers = &self.bare.numbers;
+        let taken = !fallen.is_empty() || !dropped.is_empty();
         let (what, came) = match bare.call.name {
             "settled" | "returned" => (Came::Marked, changed && fallen.contains(&numbers[1])),
             "stamp_terminal" => (Came::Stamped, changed && dropped.contains(&numbers[0])),
             "closes" => (Came::Closed, said(bare) != expected),
+            "bundle" => (Came::Bundled, changed && taken),
             _ => (Came::Changed, false),
         };
         self.verdict.note(what, came);
-        let taken = !fallen.is_empty() || !dropped.is_empty();
         self.verdict.note(Came::Changed, changed && taken);
     }
 
@@ -206,7 +211,7 @@ impl Sides {
         self.told.extend(rows(made, 3));
         self.told.sort();
         self.verdict.shown.reports = !rows(bare, 3).eq(self.told.iter().cloned());
-        self.verdict.shown.ledger = dump(&self.made.book) != dump(&self.bare.book);
+        self.verdict.shown.ledger = contents(&self.made.book) != contents(&self.bare.book);
         Some(())
     }
 }
@@ -243,18 +248,6 @@ fn less(omitted: &Omitted, bare: &Reply) -> (u64, Vec<u64>, Vec<Vec<u64>>) {
         answers = vec![words.len() as u64];
     }
     (status, answers, words)
-}
-
-fn dump(book: &Book) -> Vec<u64> {
-    let mut said = Vec::new();
-    let given = Given {
-        numbers: &[],
-        lent: &mut [],
-        said: &mut said,
-    };
-    let dump = call_named(b"dump").expect("a call of the table");
-    dump.make(&mut book.clone(), given).expect("never refused");
-    said
 }
 
 /// Pairs of one kind, and how many of them showed, and in what.

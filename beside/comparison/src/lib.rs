@@ -2,7 +2,9 @@
 
 pub mod apart;
 pub mod breaches;
+pub mod bundles;
 pub mod coverage;
+pub mod items;
 pub mod left_out;
 pub mod limits;
 pub mod lines;

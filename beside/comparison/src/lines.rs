@@ -1,5 +1,9 @@
 //! The numbers of each call, drawn from the pools and steered by what the ledger holds.
 
+mod bundling;
+
+pub use bundling::shuffle;
+
 use std::collections::BTreeSet;
 
 use reference::{CORE, DEEPEST, DESTINATIONS, EDGES, GROUPS, LAST_TIME, ROUTES, Tally};
@@ -27,7 +31,7 @@ type Draw<'a> = fn(&mut Maker<'a>) -> Vec<u64>;
 
 impl<'a> Maker<'a> {
     /// Each call with its usual weight.
-    pub const DRAWS: [(&'static str, u64, Draw<'a>); 32] = [
+    pub const DRAWS: [(&'static str, u64, Draw<'a>); 33] = [
         ("new", 1, Self::making),
         ("register_committed", 30, Self::admission),
         ("record_absence", 6, Self::absence),
@@ -42,6 +46,7 @@ impl<'a> Maker<'a> {
         ("record_terminal", 8, Self::terminal),
         ("stamp_terminal", 4, Self::stamp),
         ("prune", 6, Self::clock),
+        ("bundle", 8, Self::bundle),
         ("questions", 4, Self::nothing),
         ("open_at", 2, Self::question_at),
         ("answers", 4, Self::question_read),

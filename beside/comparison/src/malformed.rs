@@ -1,6 +1,6 @@
 //! Scripts that stop early or end oddly: lines that are none of the format's.
 
-use reference::{Call, MOST_LENT};
+use reference::{Call, MOST_LENT, MOST_NUMBERS};
 
 use crate::random::Random;
 use crate::scripts::Names;
@@ -41,7 +41,11 @@ pub fn spoil(random: &mut Random, text: Vec<u8>, names: &Names) -> Vec<u8> {
             let line = random.pick(&REPEATS);
             insert(random, &text, line)
         }
-        6 | 7 => {
+        6 => {
+            let line = longest_line(random, names);
+            insert(random, &text, &line)
+        }
+        7 => {
             let line = random.pick(&NAMELESS);
             insert(random, &text, line)
         }
@@ -51,6 +55,24 @@ pub fn spoil(random: &mut Random, text: Vec<u8>, names: &Names) -> Vec<u8> {
             insert(random, &text, &line)
         }
     }
+}
+
+/// A line of as many numbers as there may be, or one off that, each with one digit or with the most that it needs.
+fn longest_line(random: &mut Random, names: &Names) -> Vec<u8> {
+    let mut calls = names.calls();
+    if calls.iter().any(|call| call.numbers.is_none()) {
+        calls.retain(|call| call.numbers.is_none());
+    }
+    let name = random.pick(&calls).name;
+    let most = MOST_NUMBERS as u64;
+    let count = random.between(most - 1, most + 1) as usize;
+    let number = random.pick(&[" 0", " 18446744073709551615"]);
+    let lent = if random.percent(50) {
+        format!(" lent {MOST_LENT}")
+    } else {
+        String::new()
+    };
+    format!("{name}{}{lent}", number.repeat(count)).into_bytes()
 }
 
 /// Put a line between two of the script's.
@@ -92,7 +114,7 @@ fn spoilt_line(random: &mut Random, call: &Call) -> Vec<u8> {
             random.pick(&["x", "-1", "", "18446744073709551616"])
         ),
         16 => good.to_uppercase(),
-        _ => format!("{name}{}", " 0".repeat(random.between(2047, 2049) as usize)),
+        _ => format!("{good} lent {MOST_LENT}"),
     };
     line.into_bytes()
 }

@@ -9,6 +9,7 @@ use std::time::Duration;
 
 pub struct Port {
     pub program: PathBuf,
+    pub arguments: &'static [&'static str],
     /// How long one run may take before it counts as one that never ends.
     pub patience: Duration,
 }
@@ -17,6 +18,7 @@ impl Port {
     /// What the program wrote; a run that failed or was cut off says so in a last line.
     pub fn run(&self, script: &[u8]) -> Result<Vec<u8>, String> {
         let mut child = Command::new(&self.program)
+            .args(self.arguments)
             .stdin(Stdio::piped())
             .stdout(Stdio::piped())
             .stderr(Stdio::null())

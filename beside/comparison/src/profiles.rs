@@ -199,8 +199,34 @@ const WIDE: Profile = Profile {
     ..MIXED
 };
 
+/// Blocks handed over whole; and the same where they come upon full tables.
+const BLOCKS: Profile = Profile {
+    breach: 3,
+    fill: (3, "bundle"),
+    lines: (10, 30),
+    favour: &["bundle", "bundle", "bundle"],
+    ..MIXED
+};
+
+const FULL_BLOCKS: Profile = Profile {
+    fill: (44, "register_committed"),
+    favour: &["bundle", "bundle", "forget", "prune"],
+    ..FULL
+};
+
+const DEPARTING_BLOCKS: Profile = Profile {
+    fill: (32, "record_terminal"),
+    favour: &["bundle", "bundle", "certify", "prune"],
+    ..DEPARTURES
+};
+
+const ABSENT_BLOCKS: Profile = Profile {
+    favour: &["bundle", "bundle", "record_absence"],
+    ..ABSENCES
+};
+
 /// Each with its weight.
-const PROFILES: [(u64, &Profile); 12] = [
+const PROFILES: [(u64, &Profile); 16] = [
     (20, &MIXED),
     (6, &FULL),
     (2, &BRIM),
@@ -213,6 +239,10 @@ const PROFILES: [(u64, &Profile); 12] = [
     (14, &DEPARTING),
     (10, &BREACHES),
     (6, &WIDE),
+    (14, &BLOCKS),
+    (4, &FULL_BLOCKS),
+    (4, &DEPARTING_BLOCKS),
+    (4, &ABSENT_BLOCKS),
 ];
 
 pub fn pick(random: &mut Random) -> &'static Profile {

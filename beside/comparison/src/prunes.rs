@@ -75,7 +75,7 @@ fn first_that_fits(entry: &Standing) -> Rule {
     match (entry.part, entry.certificate, &entry.remote) {
         (CORE, ..EXECUTED, _) => Rule::Unexecuted,
         (LEG | REMAINDER, _, _) => Rule::Leg,
-        _ if entry.absent => Rule::Absent,
+        _ if entry.absences > 0 => Rule::Absent,
         _ if entry.named => Rule::Named,
         (_, 1.., Remote::Open) => Rule::Open,
         (_, 1.., Remote::Departed) => Rule::Departed,

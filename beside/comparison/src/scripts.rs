@@ -3,7 +3,8 @@
 use reference::{CALLS, Call, FILLER, Given, LONGEST_SPAN, MOST_LENT, Runner, call_named};
 
 use crate::breaches::spoil;
-use crate::lines::Maker;
+use crate::items::{joined, written};
+use crate::lines::{Maker, shuffle};
 use crate::malformed;
 use crate::pools::Pools;
 use crate::profiles::{self, Profile};
@@ -234,6 +235,16 @@ impl<'a> Writer<'a> {
         if matches!(name, "settled" | "returned") && self.random.percent(40) {
             self.mark_all(name, numbers[1]);
         }
+        if name == "bundle" && self.random.percent(15) {
+            self.reordered(&numbers);
+        }
+    }
+
+    /// The same items in another order.
+    fn reordered(&mut self, numbers: &[u64]) {
+        let mut items = written(numbers);
+        shuffle(self.random, &mut items);
+        self.line("bundle", &joined(&items), None);
     }
 
     /// The call of that name and numbers for it, spoilt where a breach is due.

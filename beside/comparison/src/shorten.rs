@@ -1,5 +1,8 @@
 //! Shortens a script while two programs still answer it differently.
 
+use crate::items::{joined, written};
+use crate::scripts::line;
+
 /// Runs are bounded, since each one starts a program.
 const MOST_RUNS: usize = 3000;
 
@@ -26,6 +29,49 @@ pub fn shorten(script: &[u8], mut differs: impl FnMut(&[u8]) -> bool) -> Vec<u8>
         stretch = if again { 1 } else { stretch / 2 };
     }
     lines.concat()
+}
+
+/// Then drop items of bundles, each with its kind, its length and its words.
+pub fn thin(script: &[u8], mut differs: impl FnMut(&[u8]) -> bool) -> Vec<u8> {
+    let mut lines: Vec<Vec<u8>> = script
+        .split_inclusive(|byte| *byte == b'\n')
+        .map(<[u8]>::to_vec)
+        .collect();
+    let mut runs = 0;
+    for place in 0..lines.len() {
+        let mut item = 0;
+        while let Some(without) = without_item(&lines[place], item) {
+            if runs == MOST_RUNS {
+                break;
+            }
+            let kept = std::mem::replace(&mut lines[place], without);
+            runs += 1;
+            if !differs(&lines.concat()) {
+                lines[place] = kept;
+                item += 1;
+            }
+        }
+    }
+    lines.concat()
+}
+
+/// A bundle's line without one of its items; none where it is no bundle, is not well formed, or has no such item.
+fn without_item(text: &[u8], place: usize) -> Option<Vec<u8>> {
+    let text = std::str::from_utf8(text).ok()?.strip_suffix('\n')?;
+    let (name, numbers) = text.split_once(' ')?;
+    let numbers = numbers
+        .split(' ')
+        .map(str::parse)
+        .collect::<Result<Vec<u64>, _>>();
+    let (numbers, true) = (numbers.ok()?, name == "bundle") else {
+        return None;
+    };
+    let mut items = written(&numbers);
+    if joined(&items) != numbers || place >= items.len() {
+        return None;
+    }
+    items.remove(place);
+    Some((line(name, &joined(&items), None) + "\n").into_bytes())
 }
 
 /// Then put 0 or 1 for every number that can be so without the difference going away.

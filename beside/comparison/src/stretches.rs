@@ -77,11 +77,12 @@ impl Aim {
                 "fated",
                 "release_resolved",
                 "forget",
+                "bundle",
             ],
-            Hypothesis::Clear => &["register_committed", "record_abandonment"],
-            Hypothesis::Kept => &["record_abandonment", "record_terminal"],
-            Hypothesis::Unheld => &["record_terminal"],
-            Hypothesis::Room => &["register_committed", "record_terminal", "closes"],
+            Hypothesis::Clear => &["register_committed", "record_abandonment", "bundle"],
+            Hypothesis::Kept => &["record_abandonment", "record_terminal", "bundle"],
+            Hypothesis::Unheld => &["record_terminal", "bundle"],
+            Hypothesis::Room => &["register_committed", "record_terminal", "closes", "bundle"],
             Hypothesis::Steady => &[],
         }
     }

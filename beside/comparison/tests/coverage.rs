@@ -1,12 +1,13 @@
 //! Holds the generator to its purpose: every refusal of every call, every rule of prune standing and falling, and every way an
 //! entry goes, comes up in a few thousand scripts.
 
+use comparison::bundles::EDGES;
 use comparison::coverage::Coverage;
 use comparison::prunes::{RULES, Rule};
 use comparison::scripts::{Names, script};
 
 /// Each call with the refusals that the paper's table allows it.
-const REFUSALS: [(&str, &[u64]); 19] = [
+const REFUSALS: [(&str, &[u64]); 20] = [
     ("new", &[1, 2]),
     ("register_committed", &[3, 4, 5, 6]),
     ("record_absence", &[4, 7]),
@@ -17,6 +18,7 @@ const REFUSALS: [(&str, &[u64]); 19] = [
     ("record_terminal", &[3, 4, 5, 8]),
     ("stamp_terminal", &[3, 4]),
     ("prune", &[3, 9]),
+    ("bundle", &[3, 4, 5, 6, 7, 8, 10, 11]),
     ("questions", &[9]),
     ("open_at", &[3, 4]),
     ("answers", &[3, 4, 5]),
@@ -66,6 +68,24 @@ fn every_rule_stands_and_falls_to_its_edge() {
             let least = judged.fell.min(judged.stood_last).min(judged.fell_first);
             assert!(least > 20, "{name}: {coverage}");
         }
+    }
+}
+
+#[test]
+fn bundles_come_to_every_edge() {
+    let coverage = covered(&Names::all(), 2000);
+    let bundles = coverage.bundles();
+    for (size, [accepted, refused]) in bundles.by_size() {
+        let too_many = size.starts_with("65");
+        assert!(refused > 5, "{size} items: {coverage}");
+        assert!(too_many || accepted > 5, "{size} items: {coverage}");
+    }
+    let counts = bundles.by_kind().chain(bundles.by_answer());
+    for (name, bundles) in counts {
+        assert!(bundles > 1000, "{name}: {coverage}");
+    }
+    for (edge, name) in EDGES {
+        assert!(bundles.with_edge(edge) > 20, "{name}: {coverage}");
     }
 }
 

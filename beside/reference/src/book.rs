@@ -1,6 +1,6 @@
 //! The Rust's ledger with what the paper holds beside it: the spans and the running count.
 
-use std::collections::BTreeMap;
+use std::collections::{BTreeMap, BTreeSet};
 
 use hyperscale_types::{ShardId, Spans, TxHash};
 
@@ -18,13 +18,15 @@ pub struct Tally {
     pub owed: BTreeMap<u64, Standing>,
     /// The index: record and transaction.
     pub pairs: Vec<(u64, u64)>,
+    /// The shards of the departures on file.
+    pub departures: BTreeSet<u64>,
 }
 
 /// What the rules of prune ask of an entry before any clock.
 pub struct Standing {
     pub part: u64,
     pub certificate: u64,
-    pub absent: bool,
+    pub absences: usize,
     pub named: bool,
     pub remote: Remote,
 }
@@ -104,6 +106,7 @@ impl Book {
         Tally {
             owed: inside::owed(&self.ledger),
             pairs: inside::pairs(&self.ledger),
+            departures: inside::departed(&self.ledger),
         }
     }
 

@@ -16,7 +16,7 @@ use crate::refusals::{
 use crate::table::Given;
 use crate::words::{Admission, abandonment_record, finalization};
 
-type Answered = Result<(), u64>;
+pub type Answered = Result<(), u64>;
 
 pub fn new(book: &mut Book, given: Given) -> Answered {
     let made = Book::make(given.numbers);

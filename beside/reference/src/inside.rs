@@ -1,6 +1,6 @@
 //! A child module of the Rust's ledger: reads its private fields, and changes none.
 
-use std::collections::BTreeMap;
+use std::collections::{BTreeMap, BTreeSet};
 
 use hyperscale_engine::legs::{Classified, CrossingEdge};
 use hyperscale_types::{RoutePrefix, ShardId, SubstateKey, TxHash};
@@ -31,6 +31,10 @@ pub fn departures(ledger: &Ledger) -> usize {
     ledger.departed.len()
 }
 
+pub fn departed(ledger: &Ledger) -> BTreeSet<u64> {
+    ledger.departed.keys().map(|shard| shard.0).collect()
+}
+
 pub fn has_departure(ledger: &Ledger, shard: ShardId) -> bool {
     ledger.departed.contains_key(&shard)
 }
@@ -43,7 +47,7 @@ pub fn owed(ledger: &Ledger) -> BTreeMap<u64, Standing> {
     let standing = |owed| Standing {
         part: part(owed),
         certificate: certificate(owed),
-        absent: !owed.absences.is_empty(),
+        absences: owed.absences.len(),
         named: owed.departed_by.is_some(),
         remote: remote(ledger, owed),
     };
@@ -82,7 +86,7 @@ pub fn held(ledger: &Ledger) -> Held {
 
 /// The index as pairs of record and transaction, rising.
 pub fn pairs(ledger: &Ledger) -> Vec<(u64, u64)> {
-    let named = |(record, names): (&SubstateKey, &std::collections::BTreeSet<TxHash>)| {
+    let named = |(record, names): (&SubstateKey, &BTreeSet<TxHash>)| {
         let record = record.0;
         names.iter().map(move |tx_hash| (record, tx_hash.0)).collect::<Vec<_>>()
     };

@@ -1,6 +1,7 @@
 //! The original ledger, run by call scripts, with the paper's refusal table in front.
 
 mod book;
+mod bundle;
 mod changing;
 mod readings;
 mod refusals;
@@ -21,10 +22,11 @@ mod original {
 }
 
 pub use book::{Book, Held, Holder, Leaving, Remote, Standing, Tally};
+pub use bundle::{KINDS, Kind, keep_no_copy};
 pub use original::ledger;
 pub use refusals::{
-    ABSENCES, CORE, DEEPEST, DEPARTURES, DESTINATIONS, EDGES, ENTRIES, GROUPS, LAST_SHARD,
+    ABSENCES, CORE, DEEPEST, DEPARTURES, DESTINATIONS, EDGES, ENTRIES, GROUPS, ITEMS, LAST_SHARD,
     LAST_TIME, LONGEST_SPAN, ROUTES,
 };
-pub use script::{FILLER, MOST_LENT, Reply, Runner, run};
+pub use script::{FILLER, MOST_LENT, MOST_NUMBERS, Reply, Runner, run};
 pub use table::{CALLS, Call, Given, call_named};

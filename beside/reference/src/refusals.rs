@@ -9,6 +9,8 @@ pub const ENTRIES_FULL: u64 = 6;
 pub const ABSENCES_FULL: u64 = 7;
 pub const DEPARTURES_FULL: u64 = 8;
 pub const LIST_SHORT: u64 = 9;
+pub const NO_KIND: u64 = 10;
+pub const BAD_BUNDLE: u64 = 11;
 
 pub const LAST_TIME: u64 = (1 << 48) - 1;
 pub const LAST_SHARD: u64 = (1 << 33) - 1;
@@ -24,6 +26,8 @@ pub const DESTINATIONS: u64 = 4;
 /// Groups of a record, and lines and deciding transactions of a finalization.
 pub const GROUPS: u64 = 48;
 pub const DEEPEST: u64 = 32;
+/// Items of a bundle.
+pub const ITEMS: u64 = 64;
 
 pub fn is_shard(word: u64) -> bool {
     (1..=LAST_SHARD).contains(&word)

@@ -1,8 +1,8 @@
 //! Call scripts: one line in, one line out, as the format's page lays down.
 //!
 //! Where that page leaves room it is read by its grammar: `lent` may follow any call and says
-//! nothing to one that takes no list; it comes last and has one number, at most 4,096, which is
-//! not among the line's 2,048; zeros may lead a number; a carriage return, a tab, a sign or a
+//! nothing to one that takes no list; it comes last and has one number, at most 8,192, which is
+//! not among the line's 8,192; zeros may lead a number; a carriage return, a tab, a sign or a
 //! second space belongs to no number. `repeat` has one number from 1 and no `lent`, passes over
 //! empty lines and comments, may not be followed by another `repeat`, and is nothing at the end.
 
@@ -11,8 +11,8 @@ use crate::table::{Call, Given, call_named};
 
 /// What each lent word holds before a call.
 pub const FILLER: u64 = 11_936_128_518_282_651_045;
-pub const MOST_LENT: u64 = 4_096;
-const MOST_NUMBERS: usize = 2_048;
+pub const MOST_LENT: u64 = 8_192;
+pub const MOST_NUMBERS: usize = 8_192;
 
 /// What the last call said.
 pub struct Reply {

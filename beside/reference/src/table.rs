@@ -1,7 +1,7 @@
 //! The table of calls: name, how many numbers, words of a list item, and what runs.
 
 use crate::book::Book;
-use crate::{changing, readings};
+use crate::{bundle, changing, readings};
 
 /// What a call is handed, and where it says its answers.
 pub struct Given<'a> {
@@ -17,7 +17,7 @@ impl Given<'_> {
     }
 }
 
-type Body = fn(&mut Book, Given) -> Result<(), u64>;
+pub(crate) type Body = fn(&mut Book, Given) -> Result<(), u64>;
 
 pub struct Call {
     pub name: &'static str,
@@ -45,7 +45,7 @@ impl Call {
     }
 }
 
-pub static CALLS: [Call; 32] = [
+pub static CALLS: [Call; 33] = [
     Call::of("new", Some(4), 0, changing::new),
     Call::of("register_committed", None, 0, changing::register_committed),
     Call::of("record_absence", Some(3), 0, changing::record_absence),
@@ -60,6 +60,7 @@ pub static CALLS: [Call; 32] = [
     Call::of("record_terminal", Some(4), 0, changing::record_terminal),
     Call::of("stamp_terminal", Some(2), 0, changing::stamp_terminal),
     Call::of("prune", Some(1), 3, changing::prune),
+    Call::of("bundle", None, 0, bundle::bundle),
     Call::of("questions", Some(0), 5, readings::questions),
     Call::of("open_at", Some(6), 0, readings::open_at),
     Call::of("answers", Some(7), 0, readings::answers),

@@ -9,13 +9,15 @@ use crate::cases::Case;
 
 const PATIENCE: Duration = Duration::from_secs(60);
 
-/// Each block of each case, made twice with a dump after each.
+/// Each block of each case, made twice with a dump after each. The Rust is given these arguments.
 pub fn check<'a>(
     programs: &[PathBuf; 2],
+    arguments: &'static [&'static str],
     cases: impl Iterator<Item = &'a Case>,
 ) -> Result<(), String> {
-    let [rust, port] = programs.each_ref().map(|program| Port {
-        program: program.clone(),
+    let [rust, port] = [(0, arguments), (1, &[][..])].map(|(side, arguments)| Port {
+        program: programs[side].clone(),
+        arguments,
         patience: PATIENCE,
     });
     for case in cases {
@@ -49,7 +51,7 @@ fn restored(setup: &str, block: &str, answers: &[u8]) -> bool {
     answers.len() == second + 1 && held(first).eq(held(second))
 }
 
-/// All blocks on full ledgers, and a dump: a script that must have every call of the format.
+/// All blocks of these cases, and a dump: a script that must have every call of the format.
 pub fn all_calls<'a>(cases: impl Iterator<Item = &'a Case>) -> Result<String, String> {
     let mut script = String::new();
     for case in cases {

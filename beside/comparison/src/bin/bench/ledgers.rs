@@ -144,6 +144,16 @@ pub fn abandonment(shard: u64, tx: u64) -> String {
     line("record_abandonment", &words)
 }
 
+/// A record of this shard that names several, each with eight routes.
+pub fn abandonment_of(shard: u64, txs: &[u64]) -> String {
+    let groups = txs.iter().flat_map(|tx| [*tx, 1000, 2000, 10, 77]);
+    let routes = txs.iter().flat_map(|tx| routes(*tx));
+    let sizes = vec![8; txs.len()];
+    let head = vec![txs.len() as u64, shard];
+    let words = [head, sizes, groups.collect(), routes.collect()].concat();
+    line("record_abandonment", &words)
+}
+
 /// A ledger with so many entries in two lines: a record rebuilds them, whole and without routes.
 pub fn rebuilt(count: u64) -> Vec<String> {
     let groups = (1..=count).flat_map(|tx| [tx, 1000, 2000, 10, 77]);

@@ -1,6 +1,7 @@
 //! Times the port's program and the Rust on the same scripts in one run; prints tables, and writes them and a picture to docs/.
 
 mod agreement;
+mod bundles;
 mod cases;
 mod full;
 mod layout;
@@ -17,6 +18,7 @@ use std::path::{Path, PathBuf};
 use std::process::ExitCode;
 use std::{env, fs, process};
 
+use bundles::Bundle;
 use cases::Case;
 use layout::Layouts;
 use ledgers::FULL;
@@ -30,12 +32,15 @@ type Failing<T> = Result<T, Box<dyn Error>>;
 const USAGE: &str = "usage: bench REFERENCE PORT ROOT [ROWS]: the two programs to time, and the repository's folder; with ROWS only the rows \
                      whose names have that in them are timed, and nothing is written";
 /// The titles of the tables in the picture.
-const PICTURED: [&str; 4] = [
+const PICTURED: [&str; 5] = [
     "Changing calls, 48 entries",
     "Readings, 48 entries",
     "A full ledger gone over",
     "A block's work",
+    "Bundles",
 ];
+/// The Rust without the copy of the ledger from which a refused bundle is undone.
+const NO_COPY: [&str; 1] = ["--no-copy"];
 
 fn main() -> ExitCode {
     let words: Vec<String> = env::args().skip(1).collect();
@@ -66,6 +71,8 @@ struct Bench<'a> {
     scratch: &'a Path,
     paths: [PathBuf; 2],
     programs: [Program; 2],
+    /// The Rust that makes bundles without a copy.
+    bare: Program,
     page: Page,
     hand_over: f64,
 }
@@ -78,7 +85,10 @@ impl<'a> Bench<'a> {
         let paths = [found(programs[0])?, found(programs[1])?];
         Ok(Self {
             scratch,
-            programs: paths.each_ref().map(|path| Program::new(path, scratch)),
+            programs: paths
+                .each_ref()
+                .map(|path| Program::new(path, &[], scratch)),
+            bare: Program::new(&paths[0], &NO_COPY, scratch),
             paths,
             page: Page::default(),
             hand_over: 0.0,
@@ -99,10 +109,16 @@ impl<'a> Bench<'a> {
         ]
         .map(|(title, cases)| (title, cases.into_iter().filter(asked).collect::<Vec<_>>()));
         let cases = || groups.iter().flat_map(|(_, cases)| cases);
-        agreement::check(
-            &self.paths,
-            cases().chain(blocks.iter().map(|block| &block.case)),
-        )?;
+        let bundles: Vec<Bundle> = bundles::rows()
+            .into_iter()
+            .filter(|bundle| asked(&bundle.case))
+            .collect();
+        let of_bundles = || bundles.iter().map(|bundle| &bundle.case);
+        let of_blocks = blocks.iter().map(|block| &block.case);
+        let all = cases().chain(of_blocks).chain(of_bundles());
+        agreement::check(&self.paths, &[], all)?;
+        let undone = bundles.iter().filter(|bundle| !bundle.refused);
+        agreement::check(&self.paths, &NO_COPY, undone.map(|bundle| &bundle.case))?;
         let bytes = layouts.of("Ledger")?.size;
         self.hand_over = timing::hand_over(bytes);
         self.page.introduce(bytes, self.hand_over);
@@ -111,10 +127,12 @@ impl<'a> Bench<'a> {
             shown.push(self.calls(title, cases)?);
         }
         shown.push(self.blocks(&blocks)?);
+        shown.push(self.bundles(&bundles)?);
         if rows.is_some() {
             return Ok(());
         }
-        let all = agreement::all_calls(cases().filter(|case| case.entries == FULL))?;
+        let full = cases().filter(|case| case.entries == FULL);
+        let all = agreement::all_calls(full.chain(of_bundles()))?;
         self.sizes(&layouts, &all)?;
         self.write(root, &shown)
     }
@@ -153,6 +171,32 @@ impl<'a> Bench<'a> {
             self.row(case.name.to_string(), case.entries, bare),
         ];
         Ok(rows.into_iter().flatten().collect())
+    }
+
+    /// Bundles, by the Rust that keeps no copy where there is nothing to undo; behind whole ones that are accepted what it takes with the copy.
+    fn bundles(&mut self, bundles: &[Bundle]) -> Failing<Vec<Row>> {
+        self.page.bundles();
+        let mut shown = Vec::new();
+        for bundle in bundles {
+            let case = &bundle.case;
+            let cost = |program: &Program| match &bundle.items {
+                Some((items, empty)) => program.item(case, *items, empty),
+                None => program.cost(case),
+            };
+            let [copying, port] = &self.programs;
+            let rust = if bundle.refused { copying } else { &self.bare };
+            let row = Row {
+                name: case.name.to_string(),
+                entries: case.entries,
+                rust: cost(rust)?,
+                port: cost(port)?,
+            };
+            let whole = bundle.items.is_none() && !bundle.refused;
+            let copying = if whole { Some(cost(copying)?) } else { None };
+            self.page.bundle(&row, copying, self.hand_over);
+            shown.extend(Some(row).filter(|row| case.pictured && row.is_clear()));
+        }
+        Ok(shown)
     }
 
     /// Put a row on the page; it is handed back for the picture if its figures are clear.

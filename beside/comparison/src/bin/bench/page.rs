@@ -30,6 +30,19 @@ const INTRODUCTION: [&str; 5] = [
      that one alone. `dump` is the script's own and is not timed.",
 ];
 
+const OF_BUNDLES: [&str; 3] = [
+    "A bundle hands over all that a block brings (`docs/VALIDATOR.md`). The Rust has none: beside it the calls of the items are made one by one, by the functions of the single calls, \
+     from the words of the bundle, which either side has to take apart. Nor can the Rust undo a call. Its figure is that of the calls alone, by a program that is told to keep no copy of \
+     the ledger; the last column has what it takes with the copy from which it would undo a refused bundle. The one that is refused needs that copy, so it is in the Rust's figure there; what the \
+     calls take without it is in the row above.",
+    "Each whole bundle restores its ledger: it first releases what the one before it took in, and what its own records rebuild, then takes the same in again, and its absences are on \
+     those. Its terminals are of shards that are known. That of a quiet block has 14 admissions, with up to 8 records each, 8 absences, 2 finalizations and a terminal; that after a split 6 \
+     admissions, 8 absences, 3 finalizations, 4 abandonment records of 8 entries, of which 2 are rebuilt, and 4 terminals, beside executed entries and 32 departures; the full one 16 \
+     admissions, 24 absences, 12 finalizations, 8 abandonment records of 2 entries, of which one is rebuilt, and 4 terminals. In the refused one the last item that is done is an absence of no shard.",
+    "An item is a bundle of as many of its kind as fit (32 terminals; 24 abandonment records, finalizations or admissions; 64 absences), less an empty bundle on the same ledger, shared by their \
+     number; a copy drops out with that. It is timed in a block that begins with a making, less the same block with a bundle in its place that is refused for a kind.",
+];
+
 /// How many times its error a figure must be to stand without it, and to be set against another.
 const SURE: f64 = 10.0;
 const CLEAR: f64 = 3.0;
@@ -100,6 +113,17 @@ impl Page {
         self.columns(&COLUMNS);
     }
 
+    /// The table of bundles, which has a column more than the others.
+    pub fn bundles(&mut self) {
+        self.heading("Bundles");
+        for paragraph in OF_BUNDLES {
+            self.say(paragraph);
+            self.say("");
+        }
+        let copying = ["the Rust with a copy, ns"];
+        self.columns(&[&COLUMNS[..], &copying].concat());
+    }
+
     pub fn tell_stack(&mut self, least: Option<u64>) {
         let told = match least {
             Some(kib) => format!(
@@ -119,26 +143,39 @@ impl Page {
     }
 
     pub fn row(&mut self, row: &Row, hand_over: f64) {
-        let Row {
-            name,
-            entries,
-            rust,
-            port,
-        } = row;
-        let quotient = |over: f64, under: f64| match row.is_clear() {
-            true => rounded(over / under),
-            false => "?".into(),
-        };
-        let cells = [
-            name.clone(),
-            entries.to_string(),
-            told(*rust),
-            told(*port),
-            quotient(rust.value, port.value),
-            quotient(port.value, hand_over),
-        ];
+        self.cells(&cells(row, hand_over));
+    }
+
+    /// With what the Rust takes when it keeps a copy, where that is told.
+    pub fn bundle(&mut self, row: &Row, copying: Option<Cost>, hand_over: f64) {
+        let copying = vec![copying.map_or(String::new(), told)];
+        self.cells(&[cells(row, hand_over), copying].concat());
+    }
+
+    fn cells(&mut self, cells: &[String]) {
         self.say(&format!("| {} |", cells.join(" | ")));
     }
+}
+
+fn cells(row: &Row, hand_over: f64) -> Vec<String> {
+    let Row {
+        name,
+        entries,
+        rust,
+        port,
+    } = row;
+    let quotient = |over: f64, under: f64| match row.is_clear() {
+        true => rounded(over / under),
+        false => "?".into(),
+    };
+    vec![
+        name.clone(),
+        entries.to_string(),
+        told(*rust),
+        told(*port),
+        quotient(rust.value, port.value),
+        quotient(port.value, hand_over),
+    ]
 }
 
 /// A figure, with its error where that is not small.

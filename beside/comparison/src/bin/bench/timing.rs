@@ -106,6 +106,7 @@ fn sorted(times: impl Iterator<Item = f64>) -> Vec<f64> {
 /// A program that is timed.
 pub struct Program {
     path: PathBuf,
+    arguments: &'static [&'static str],
     /// Two scripts, written where the program reads them.
     scripts: [PathBuf; 2],
     /// Costs of repeated calls: idle lines come up in many rows.
@@ -113,9 +114,10 @@ pub struct Program {
 }
 
 impl Program {
-    pub fn new(path: &Path, scratch: &Path) -> Self {
+    pub fn new(path: &Path, arguments: &'static [&'static str], scratch: &Path) -> Self {
         Self {
             path: path.to_path_buf(),
+            arguments,
             scripts: ["longer", "shorter"].map(|name| scratch.join(name)),
             known: RefCell::default(),
         }
@@ -126,6 +128,12 @@ impl Program {
             Work::Repeated(call) => self.repeated(&case.setup, call),
             Work::Swapped(swap) => self.swapped(&case.setup, swap),
         }
+    }
+
+    /// What each of so many items adds to an empty bundle.
+    pub fn item(&self, bundle: &Case, items: u32, empty: &Case) -> io::Result<Cost> {
+        let added = self.cost(bundle)?.less(self.cost(empty)?);
+        Ok(added.times(1.0 / f64::from(items)))
     }
 
     /// A turn of a `repeat`, less what the programs do before each to fill the lent list anew.
@@ -236,6 +244,7 @@ impl Program {
     /// The processor's time for one run, which other programs on the machine hardly change.
     fn run(&self, script: &Path) -> io::Result<Duration> {
         let mut child = Command::new(&self.path)
+            .args(self.arguments)
             .stdin(File::open(script)?)
             .stdout(Stdio::null())
             .stderr(Stdio::piped())

@@ -24,8 +24,8 @@ pub fn blocks() -> [Block; 2] {
     let quiet = "a block's calls, without their text";
     let split = "a block's calls after a split, without their text";
     [
-        block(quiet, "", STANDING, &standing()),
-        block(split, " after a split", SPLIT, &after_a_split()),
+        block(quiet, "", STANDING, &standing(STANDING)),
+        block(split, " after a split", SPLIT, &after_a_split(SPLIT)),
     ]
 }
 
@@ -45,13 +45,13 @@ fn block(bare: &'static str, when: &str, entries: u64, setup: &[String]) -> Bloc
 }
 
 /// Legs that stay open, cores that ask, and whole entries that were executed, whose first routes' shards have gone.
-fn standing() -> Vec<String> {
-    let entries = (1..=STANDING).map(|n| match n % 3 {
+pub fn standing(count: u64) -> Vec<String> {
+    let entries = (1..=count).map(|n| match n % 3 {
         0 => Entry::leg(n, 8).taken_in(),
         1 => Entry::core(n, 0).taken_in(),
         _ => Entry::whole(n).taken_in(),
     });
-    let executed = (1..=STANDING)
+    let executed = (1..=count)
         .filter(|n| n % 3 == 2)
         .map(|n| line("certify", &[n, 2]));
     [MAKING.to_string()]
@@ -63,8 +63,8 @@ fn standing() -> Vec<String> {
 }
 
 /// Executed entries that stand by the last of their eight routes; the shards of the others have gone for good.
-fn after_a_split() -> Vec<String> {
-    let entries = (1..=SPLIT).flat_map(|n| [Entry::whole(n).taken_in(), line("certify", &[n, 2])]);
+pub fn after_a_split(count: u64) -> Vec<String> {
+    let entries = (1..=count).flat_map(|n| [Entry::whole(n).taken_in(), line("certify", &[n, 2])]);
     [MAKING.to_string()]
         .into_iter()
         .chain(entries)

@@ -11,7 +11,7 @@ use comparison::coverage::Coverage;
 use comparison::left_out::Verdict;
 use comparison::port::Port;
 use comparison::scripts::{Script, script};
-use comparison::shorten::{first_difference, first_word, shorten, simplify};
+use comparison::shorten::{first_difference, first_word, shorten, simplify, thin};
 use options::Options;
 
 /// Scripts to one run of the port's program.
@@ -36,6 +36,7 @@ fn main() -> ExitCode {
     }
     let port = options.port.clone().map(|program| Port {
         program,
+        arguments: &[],
         patience: PATIENCE,
     });
     let compared = match &port {
@@ -115,7 +116,8 @@ fn random(options: &Options, port: Option<&Port>) -> Result<(), String> {
 /// A script in which prunes that were left out show, though every call stays apart: the Rust itself is not as stated.
 fn refutation(options: &Options, index: u64, script: &[u8]) -> String {
     let refutes = |text: &[u8]| Verdict::on(text).is_some_and(|verdict| verdict.refutes());
-    let short = simplify(&shorten(script, refutes), refutes);
+    let short = thin(&shorten(script, refutes), refutes);
+    let short = simplify(&short, refutes);
     format!(
         "REFUTED: seed {}, script {index}, shortened: prunes left out show, though every call stays apart\n{}",
         options.seed,
@@ -183,6 +185,7 @@ fn differs(port: &Port, script: &[u8]) -> bool {
 
 fn explain(options: &Options, port: &Port, what: &str, script: &[u8]) -> String {
     let short = shorten(script, |text| differs(port, text));
+    let short = thin(&short, |text| differs(port, text));
     let short = simplify(&short, |text| differs(port, text));
     let expected = rust(&short);
     let answers = port.run(&short).unwrap_or_else(|error| error.into_bytes());
