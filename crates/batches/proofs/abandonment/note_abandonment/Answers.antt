@@ -81,4 +81,4 @@ returns c =
     let ws = c.in_ok-groups.groups.words.now in
     rw c.in_ok-groups.ensures.read at
     (rebuilt-all c.args.ledger.now ws c.loop-i.ledger c.loop-i.at c.loop-i.rebuilt c.loop-i.i _ c.requires (rw (sym c.in_ok-groups.ensures.read) at c.in_ok-groups.ensures.refused) c.in_ok-groups.groups.formed
-    c.loop-i.invariant (omega (arith, c.loop-i-test.false, c.len-i-end.ensures)) c.saturating_add.ensures _)
+    c.loop-i.invariant (omega (arith, c.loop-i-test.false, c.len-i-end.ensures)) c.saturating_add-ledger.ensures _)
