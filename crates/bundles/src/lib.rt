@@ -3,9 +3,13 @@
 #![tactic(auto)]
 
 ghost use Rattle.std.specs.Prelude.{[]};
-ghost use Rattle.rules.specs.Calls.{after_bundle};
+ghost use Rattle.lists.specs.Lists.{keep};
+ghost use Rattle.rules.specs.Words.{is_kind, items_written};
+ghost use Rattle.rules.specs.Calls.{terminal_item, absence_item, after_item, after_bundle};
 ghost use Rattle.ledger.specs.Contents.{Held, contents};
 ghost use Rattle.ledger.specs.Meets.{Meets};
+ghost use Rattle.bundles.specs.Doing.{MeetsIn, Did, AllItems};
+ghost use Rattle.words.specs.Bundle.{item_of};
 
 use batches::abandonment::note_abandonment;
 use batches::finalization::resolve_lines;
@@ -18,23 +22,24 @@ use types::refusal::Refusal;
 use types::{Shard, Time, Transaction};
 use words::bundle::Bundle;
 
-// An item that is a terminal: its four words.
+// An item that is a terminal: the four words of the call.
 fn terminal_item(ledger: &mut Ledger, words: &[u64]) -> Result<[u64; 3], Refusal>
+    requires { Held ledger.old }
+    ensures { MeetsIn (terminal_item words.now (contents ledger.old)) result ledger.new }
 {
     if words.len() != 4 {
         return Err(Refusal::Malformed);
     }
-    file_terminal(
-        ledger,
-        Shard(word_at(words, 0)),
-        Time(word_at(words, 1)),
-        word_at(words, 2),
-        Time(word_at(words, 3)),
-    )
+    let shard = Shard(word_at(words, 0));
+    let cut = Time(word_at(words, 1));
+    let until = Time(word_at(words, 3));
+    file_terminal(ledger, shard, cut, word_at(words, 2), until)
 }
 
 // An item that is an absence: transaction, shard and key.
 fn absence_item(ledger: &mut Ledger, words: &[u64]) -> Result<[u64; 3], Refusal>
+    requires { Held ledger.old }
+    ensures { MeetsIn (absence_item words.now (contents ledger.old)) result ledger.new }
 {
     if words.len() != 3 {
         return Err(Refusal::Malformed);
@@ -43,8 +48,10 @@ fn absence_item(ledger: &mut Ledger, words: &[u64]) -> Result<[u64; 3], Refusal>
     note_absence(ledger, tx, Shard(word_at(words, 1)), word_at(words, 2))
 }
 
-// An item of a kind.
+// An item of a kind; 5 and every other kind is an absence.
 fn item(ledger: &mut Ledger, kind: u64, words: &[u64]) -> Result<[u64; 3], Refusal>
+    requires { Held ledger.old }
+    ensures { MeetsIn (after_item (item_of kind words.now) (contents ledger.old)) result ledger.new }
 {
     match kind {
         1 => terminal_item(ledger, words),
@@ -57,6 +64,8 @@ fn item(ledger: &mut Ledger, kind: u64, words: &[u64]) -> Result<[u64; 3], Refus
 
 // The items of a kind, as written, up to the first that is refused; what they answer in all.
 fn items(ledger: &mut Ledger, bundle: Bundle<'_>, kind: u64) -> Result<u64, Refusal>
+    requires { Held ledger.old }
+    ensures { Did kind (keep (is_kind kind) (items_written bundle.entry.words.now)) (contents ledger.old) result ledger.new }
 {
     let mut at = bundle.items_at();
     let mut count = 0;
@@ -66,14 +75,16 @@ fn items(ledger: &mut Ledger, bundle: Bundle<'_>, kind: u64) -> Result<u64, Refu
         if bundle.kind(i) != kind {
             continue;
         }
-        let [answer, _, _] = item(ledger, kind, words)?;
-        count += answer;
+        let answers = item(ledger, kind, words)?;
+        count += answers[0];
     }
     Ok(count)
 }
 
-// All items, by rising kind; the three counts.
+// All items, by rising kind, and the three counts. What the ledger is after a refusal, nobody reads.
 fn all_items(ledger: &mut Ledger, words: &[u64]) -> Result<[u64; 3], Refusal>
+    requires { Held ledger.old }
+    ensures { AllItems words.now (contents ledger.old) result ledger.new }
 {
     let bundle = Bundle::read(words)?;
     items(ledger, bundle, 1)?;
@@ -84,19 +95,21 @@ fn all_items(ledger: &mut Ledger, words: &[u64]) -> Result<[u64; 3], Refusal>
     Ok([admitted, rebuilt, released])
 }
 
-// Does what a block brings, and answers how many admissions answered 1, how many entries were rebuilt and how many released. The ledger as it was is kept,
-// for the undoing.
+// Does what a block brings, and answers how many admissions answered 1, how many entries were rebuilt and how many released. The ledger as
+// it was is kept for the undoing.
 pub fn bundle(ledger: Ledger, words: &[u64]) -> Done
     requires { Held ledger }
     ensures { Meets (after_bundle words.now (contents ledger)) [] [] result }
 {
     let mut after = ledger;
-    let said = all_items(&mut after, words);
-    if said.is_err() {
-        return Done { said, ledger };
-    }
-    Done {
-        said,
-        ledger: after,
+    match all_items(&mut after, words) {
+        Ok(counts) => Done {
+            said: Ok(counts),
+            ledger: after,
+        },
+        Err(refusal) => Done {
+            said: Err(refusal),
+            ledger,
+        },
     }
 }

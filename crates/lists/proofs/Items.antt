@@ -3,11 +3,21 @@
 -- Assumes nothing.
 use Prim.Native.Nat.{ℕ, ◌+◌, ◌≤◌}
 use mathlib.Core.Path.{◌≡◌, refl, sym, ap, ap₂, ◌∙◌}
-use mathlib.Core.List.{List, [], ◌∷◌}
+use mathlib.Core.List.{List, [], ◌∷◌, ◌++◌}
 use native.Mathlib.Omega.{arith}
 use lib.ListN.{length, drop}
 use Rattle.lists.specs.Lists.{through, tally, Every}
 use Rattle.lists.proofs.Cuts.{rest-none}
+
+-- Two lists of items, one after the other.
+module _ {A S : Type 0} (f : A → S → S) where
+  pub through-append : (l m : List A) (s : S) → through f (l ++ m) s ≡ through f m (through f l s)
+  through-append [] m s = refl
+  through-append (x ∷ l) m s = through-append l m (f x s)
+
+  pub tally-append : (n : A → S → ℕ) (l m : List A) (s : S) → tally f n (l ++ m) s ≡ tally f n l s + tally f n m (through f l s)
+  tally-append n [] m s = omega arith
+  tally-append n (x ∷ l) m s = omega (arith, tally-append n l m (f x s))
 
 -- Items of a kind P, gone through from a state of a kind I that each keeps.
 module _ {A S : Type 0} (f : A → S → S) (P : A → Type 0) (I : S → Type 0) (keeps : (x : A) (s : S) → P x → I s → I (f x s)) where
@@ -59,7 +69,7 @@ module _ {A S : Type 0} (f : A → S → S) (n : A → S → ℕ) (items : List 
       (rw none at v.state, omega (arith, v.sum, ap (λ l. tally f n l s) none))
 
   -- where each counts at most one, no more are counted than there are items
-  tally-few : ((x : A) (s : S) → n x s ≤ 1) → (l : List A) (s : S) → tally f n l s ≤ length l
+  pub tally-few : ((x : A) (s : S) → n x s ≤ 1) → (l : List A) (s : S) → tally f n l s ≤ length l
   tally-few one [] s = omega arith
   tally-few one (x ∷ l) s = omega (arith, one x s, tally-few one l (f x s))
 

@@ -32,12 +32,6 @@ module _ {A B C : Type 0} (f : A → B → C) where
 
 -- an array read through a function
 module _ {A B : Type 0} (f : A → B) where
-  pub read_take : (n : ℕ) (l : List A) → take n (map f l) ≡ map f (take n l)
-  read_take zero [] = refl
-  read_take zero (x ∷ l) = refl
-  read_take (suc n) [] = refl
-  read_take (suc n) (x ∷ l) = ap (λ r. f x ∷ r) (read_take n l)
-
   -- what is found by key is changed by writing it anew
   pub changed_in : (key : B → ℕ) (t : ℕ) (g : B → B) (d : A) (a : List A) (i : ℕ) (y : A) → Ascending key (map f a) → place (at key t) 0 (map f a) ≡ Some i →
       f y ≡ g (f (get_or a i d)) → map f (set a i y) ≡ change key t g (map f a)

@@ -17,7 +17,7 @@ use Rattle.lists.proofs.Cuts.{rest_tail, rest_more, total_more, total_split, par
 use Rattle.rules.specs.Numbers.{max_items}
 use Rattle.rules.specs.Words.{word, Item, item_count, items_at, item_kinds, item_lengths, items_written, bundle_whole, bundle_known, bundle_measured}
 use Rattle.rules.proofs.Kept.{tested}
-use Rattle.words.specs.Bundle.{form_refusal}
+use Rattle.words.specs.Bundle.{form_refusal, item_of}
 
 -- the tests of a bundle's form, one by one
 pub record Bundled (ws : List ℕ) : Type 0 where
@@ -59,9 +59,6 @@ even n a s h = same_test _ _ (λ q. eq-eqb n (a + s) (omega (arith, eqb-true (n 
 pub measured_is : (ws : List ℕ) → bundle_whole ws ≡ true → eqb (length ws - items_at ws) (total self (item_lengths ws)) ≡ bundle_measured ws
 unfolding bundle_measured
 measured_is ws h = even (length ws) (items_at ws) (total self (item_lengths ws)) (whole_has ws h).1
-
-abbrev pub item_of : ℕ → List ℕ → Item
-item_of k ws = record { kind = k; words = ws }
 
 -- the i-th item, whose words start at a place
 abbrev pub item_at : List ℕ → ℕ → ℕ → Item
