@@ -75,7 +75,7 @@ impl Omitted {
     }
 
     /// What the call fails on the bare ledger. A bundle fails what one of its items' calls does, each on the ledger that the one before leaves
-    /// there.
+    /// there. Those behind one that is refused are not made, and nothing is asked of them.
     pub fn failed(&self, made: &Made, bare: &Book) -> Failed {
         if made.call.name != "bundle" {
             return self.failed_alone(made, bare);
@@ -93,7 +93,9 @@ impl Omitted {
             for (all, one) in failed.iter_mut().zip(one) {
                 *all |= one;
             }
-            item.make_on(&mut bare);
+            if item.make_on(&mut bare) != 0 {
+                break;
+            }
         }
         failed
     }

@@ -20,14 +20,14 @@ impl Item {
         Self { kind, words }
     }
 
-    /// The call that it is, with its numbers. One of a length that its kind has not is a call that is refused by 5, whatever the ledger.
+    /// The call that it is, with its numbers. One of a length that its kind has not is a call that is refused by 5, whatever the ledger, and names nothing.
     pub fn call(&self) -> (&'static Call, Vec<u64>) {
         let kind = &KINDS[self.kind as usize - 1];
         let fits = kind.words.is_none_or(|count| self.words.len() == count);
         let (name, numbers) = if fits {
             (kind.call, self.words.clone())
         } else {
-            ("certify", vec![0, 3])
+            ("release_resolved", Vec::new())
         };
         let call = call_named(name.as_bytes()).expect("a call of the table");
         (call, numbers)

@@ -46,20 +46,40 @@ fn a_pair_is_its_calls_with_the_prunes_and_without() {
     assert_eq!(pair(text, 4), [made, bare].concat().into_bytes());
 }
 
-/// The verdict by hand on three pairs: an entry that falls at 1100 is left alone, named, and named after a prune that is refused.
+/// Two entries, 9 and 0, that fall at 1100; then calls, and a prune at 1100.
+fn verdict(calls: &str) -> Verdict {
+    let before = "new 4 100 50 200\nregister_committed 0 0 0 9 1000 2000 10 77 0\nregister_committed 0 0 0 0 1000 2000 10 77 0\n";
+    let text = format!("{before}# prunes left out\n{calls}");
+    Verdict::on(&pair(text.as_bytes(), 1100)).expect("a pair")
+}
+
+/// The verdict by hand on three pairs: the entries are left alone, one is named, and one is named after a prune that is refused.
 #[test]
 fn a_verdict_is_as_worked_out() {
-    let verdict = |calls: &str| {
-        let before = "new 4 100 50 200\nregister_committed 0 0 0 9 1000 2000 10 77 0\n";
-        let text = format!("{before}# prunes left out\n{calls}");
-        Verdict::on(&pair(text.as_bytes(), 1100)).expect("a pair")
-    };
     let alone = verdict("prune 1100 lent 144\ncertify 8 2\n");
     assert!(alone.passes() && !alone.shown.any());
     let named = verdict("prune 1100 lent 144\nforget 9\n");
     assert!(named.failed[0] && named.shown.answers && !named.shown.ledger);
     let refused = verdict("prune 281474976710656 lent 144\nforget 9\n");
     assert!(refused.passes() && !refused.shown.any());
+}
+
+/// Of a bundle's items the refused one is asked, and those ahead of it; those behind it are not. One that is a word short names nothing.
+#[test]
+fn the_items_behind_a_refused_one_are_not_asked() {
+    let prune = "prune 1100 lent 144\n";
+    // A terminal of no shard, then a finalization of 9, which is written first.
+    let behind = verdict(&format!("{prune}bundle 2 3 1 4 4 1 0 9 2 0 11 0 0\n"));
+    assert!(behind.passes() && !behind.shown.any());
+    // The finalization of 9, then an admission that is refused.
+    let ahead = verdict(&format!("{prune}bundle 2 4 3 3 4 0 0 0 1 0 9 2\n"));
+    assert!(ahead.failed[0] && !ahead.shown.any());
+    // An absence on 9 that is refused for its shard.
+    let itself = verdict(&format!("{prune}bundle 1 5 3 9 0 1\n"));
+    assert!(itself.failed[0] && !itself.shown.any());
+    // A terminal that is a word short, of shard 0; an absence that is one short, of transaction 0.
+    let short = verdict(&format!("{prune}bundle 1 1 3 0 11 0\nbundle 1 5 2 0 5\n"));
+    assert!(short.passes() && !short.shown.any());
 }
 
 /// A case of the instances: its first line, and the calls with the prunes and without, the last prune and the dump apart.

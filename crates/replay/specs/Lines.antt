@@ -23,12 +23,12 @@ fill_word = 11936128518282651045
 abbrev pub filled : List ℕ → List ℕ
 filled list = map (λ w. fill_word) list
 
--- by the codes of script calls: 2 to 14 the changing calls, from 15 on the readings
+-- by the codes of script calls: 2 to 15 the changing calls, from 16 on the readings
 abbrev pub call_in : ℕ → List ℕ → ℕ → Call
 call_in code words room = call_of (code - 1) words room
 
 abbrev pub reading_in : ℕ → List ℕ → ℕ → Reading
-reading_in code words room = reading_of (code - 14) words room
+reading_in code words room = reading_of (code - 15) words room
 
 -- what a call says
 abbrev pub Reply : Type 0

@@ -8,14 +8,14 @@ use Rattle.script.specs.Calls.{names, code_of}
 use Rattle.replay.specs.Lines.{call_in, reading_in}
 
 -- register_committed, record_absence, certify, record_abandonment, settled, returned, closes, fated, release_resolved, forget,
--- record_terminal, stamp_terminal, prune: the script's names after `repeat` and `new`
+-- record_terminal, stamp_terminal, prune, bundle: the script's names after `repeat` and `new`
 abbrev pub changing_names : List (List ℕ)
-changing_names = take 13 (drop 2 names)
+changing_names = take 14 (drop 2 names)
 
 -- questions, open_at, answers, past_deadline, issuers_of, claimants, counterparts, unstamped_departures, reach, abandonment_answers, is_covered,
 -- departed, executed, reaches_beyond, issued_by, local, rebuilt: those before `dump`
 abbrev pub reading_names : List (List ℕ)
-reading_names = take 17 (drop 15 names)
+reading_names = take 17 (drop 16 names)
 
 -- what each name makes of a line's numbers and the length of its list
 pub record Named (ws : List ℕ) (room : ℕ) : Type 0 where
@@ -35,6 +35,7 @@ pub record Named (ws : List ℕ) (room : ℕ) : Type 0 where
       ∷ rules.terminal (word 0 ws) (word 1 ws) (word 2 ws) (word 3 ws)
       ∷ rules.stamp (word 0 ws) (word 1 ws)
       ∷ rules.prune (word 0 ws) room
+      ∷ rules.bundle ws
       ∷ [])
   pub readings :
       map (λ name. option_map (λ code. reading_in code ws room) (code_of name)) reading_names ≡

@@ -71,15 +71,15 @@ lent_several k text t [] e h = absurd (h refl)
 lent_several k text t (b ∷ l) e h = rw (e, cut l) refl
 
 -- what stands behind a name is within bounds
-number_small : (k : ℕ) (x : Option ℕ) → k ≤ 2048 → IfSome (lent_then k x) Small
+number_small : (k : ℕ) (x : Option ℕ) → k ≤ 8192 → IfSome (lent_then k x) Small
 number_small k None h = tt
-number_small k (Some n) h = pick (leb n 4096) refl
+number_small k (Some n) h = pick (leb n 8192) refl
   where
-    pick : (t : Bool) → t ≡ leb n 4096 → IfSome (cond t (Some (record { count = k; lent = Some n })) None) Small
-    pick true e = (h, leb-true n 4096 (sym e))
+    pick : (t : Bool) → t ≡ leb n 8192 → IfSome (cond t (Some (record { count = k; lent = Some n })) None) Small
+    pick true e = (h, leb-true n 8192 (sym e))
     pick false e = tt
 
-lent-small : (k : ℕ) (ts : List (List ℕ)) → k ≤ 2048 → IfSome (lent_of k ts) Small
+lent-small : (k : ℕ) (ts : List (List ℕ)) → k ≤ 8192 → IfSome (lent_of k ts) Small
 unfolding lent_of
 lent-small k [] h = tt
 lent-small k (t ∷ []) h = number_small k (number_of t) h
@@ -94,12 +94,12 @@ cond_small : (t : Bool) (a b : Option Tail) → IfSome a Small → IfSome b Smal
 cond_small true a b x y = x
 cond_small false a b x y = y
 
-tail_small : (k : ℕ) (ts : List (List ℕ)) → k ≤ 2048 → IfSome (tail_of k ts) Small
+tail_small : (k : ℕ) (ts : List (List ℕ)) → k ≤ 8192 → IfSome (tail_of k ts) Small
 unfolding tail_of
 tail_small k [] h = (h, tt)
 tail_small k (t ∷ ts) h =
     cond_small (same_text t lent_text) _ _ (lent-small k ts h)
-    (on_small (number_of t) (ltb k 2048) (tail_of (k + 1) ts) (λ e. tail_small (k + 1) ts (omega (arith, ltb-true k 2048 e))))
+    (on_small (number_of t) (ltb k 8192) (tail_of (k + 1) ts) (λ e. tail_small (k + 1) ts (omega (arith, ltb-true k 8192 e))))
 
 pub small : (t : Tail) (ts : List (List ℕ)) → Some t ≡ tail_of 0 ts → Small t
 small t ts e = let h = tail_small 0 ts (omega arith) in rw (← e) at h
@@ -114,9 +114,9 @@ module _ (ts us : List (List ℕ)) (t : List ℕ) (e : ts ≡ t ∷ us) where
   unfolding numbers_of
   numbers-lent s = ap numbers_of e ∙ rw (← s) refl
 
-  pub tail_number : (k n : ℕ) → false ≡ same_text t lent_text → Some n ≡ number_of t → k < 2048 → tail_of k ts ≡ tail_of (k + 1) us
+  pub tail_number : (k n : ℕ) → false ≡ same_text t lent_text → Some n ≡ number_of t → k < 8192 → tail_of k ts ≡ tail_of (k + 1) us
   unfolding tail_of
-  tail_number k n s x b = ap (tail_of k) e ∙ rw (← s, ← x, lt-ltb k 2048 b) refl
+  tail_number k n s x b = ap (tail_of k) e ∙ rw (← s, ← x, lt-ltb k 8192 b) refl
 
   pub numbers_number : (n : ℕ) → false ≡ same_text t lent_text → Some n ≡ number_of t → numbers_of ts ≡ n ∷ numbers_of us
   unfolding numbers_of
@@ -126,9 +126,9 @@ module _ (ts us : List (List ℕ)) (t : List ℕ) (e : ts ≡ t ∷ us) where
   unfolding tail_of
   tail_not k s x = ap (tail_of k) e ∙ rw (← s, ← x) refl
 
-  pub tail_many : (k n : ℕ) → false ≡ same_text t lent_text → Some n ≡ number_of t → 2048 ≤ k → tail_of k ts ≡ None
+  pub tail_many : (k n : ℕ) → false ≡ same_text t lent_text → Some n ≡ number_of t → 8192 ≤ k → tail_of k ts ≡ None
   unfolding tail_of
-  tail_many k n s x b = ap (tail_of k) e ∙ rw (← s, ← x, le-ltb k 2048 b) refl
+  tail_many k n s x b = ap (tail_of k) e ∙ rw (← s, ← x, le-ltb k 8192 b) refl
 
 -- no token more
 pub tail_end : (ts : List (List ℕ)) (k : ℕ) → ts ≡ [] → tail_of k ts ≡ Some (record { count = k; lent = None })
@@ -150,7 +150,7 @@ lent-count k (t ∷ []) = one (number_of t)
     pick n false = tt
 
     one : (x : Option ℕ) → IfSome (lent_then k x) (λ t. t.count ≡ k)
-    one (Some n) = pick n (leb n 4096)
+    one (Some n) = pick n (leb n 8192)
     one None = tt
 lent-count k (t ∷ u ∷ ts) = tt
 

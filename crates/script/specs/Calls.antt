@@ -32,6 +32,7 @@ calls =
     ∷ called "record_terminal" (Some 4) None
     ∷ called "stamp_terminal" (Some 2) None
     ∷ called "prune" (Some 1) (Some 3)
+    ∷ called "bundle" None None
     ∷ called "questions" (Some 0) (Some 5)
     ∷ called "open_at" (Some 6) None
     ∷ called "answers" (Some 7) None

@@ -36,9 +36,9 @@ behind (b ∷ l) = tokens l
 abbrev pub lent_text : List ℕ
 lent_text = bytes "lent"
 
--- the lent count behind k numbers: 0 to 4,096, and the last token
+-- the lent count behind k numbers: 0 to 8,192, and the last token
 abbrev pub lent_number : ℕ → ℕ → Option Tail
-lent_number k n = cond (leb n 4096) (Some (record { count = k; lent = Some n })) None
+lent_number k n = cond (leb n 8192) (Some (record { count = k; lent = Some n })) None
 
 abbrev pub lent_then : ℕ → Option ℕ → Option Tail
 lent_then k (Some n) = lent_number k n
@@ -54,15 +54,15 @@ onward (Some n) true r = r
 onward (Some n) false r = None
 onward None t r = None
 
--- the tokens behind a name and k numbers: numbers, 2,048 in all at most, and the lent count
+-- the tokens behind a name and k numbers: numbers, 8,192 in all at most, and the lent count
 unfoldable pub tail_of : ℕ → List (List ℕ) → Option Tail
 unfolding lent_of
 tail_of k [] = Some (record { count = k; lent = None })
-tail_of k (t ∷ ts) = cond (same_text t lent_text) (lent_of k ts) (onward (number_of t) (ltb k 2048) (tail_of (k + 1) ts))
+tail_of k (t ∷ ts) = cond (same_text t lent_text) (lent_of k ts) (onward (number_of t) (ltb k 8192) (tail_of (k + 1) ts))
 
 -- what stands behind a name within bounds
 abbrev pub Small : Tail → Type 0
-Small t = (t.count ≤ 2048) × IfSome t.lent (λ n. n ≤ 4096)
+Small t = (t.count ≤ 8192) × IfSome t.lent (λ n. n ≤ 8192)
 
 abbrev pub number_then : Option ℕ → List ℕ → List ℕ
 number_then (Some n) l = n ∷ l

@@ -19,16 +19,16 @@ returns-in_err-n-clause-value c =
     let s = sym c.if-is_lent.false ∙ c.eq-is_lent.ensures ∙ ap (same_text _) c.as_slice.ensures in
     c.from_residual.ensures ∙ sym (tail_not _ _ _ c.in-Some.ensures.token _ s c.in_err-n.ensures) ∙ c.loop-token.invariant.tail
 
-pub returns-then-count-ge2048-clause-value : goal.returns-then-count-ge2048-clause-value
-returns-then-count-ge2048-clause-value c =
+pub returns-then-count-ge8192-clause-value : goal.returns-then-count-ge8192-clause-value
+returns-then-count-ge8192-clause-value c =
     let s = sym c.if-is_lent.false ∙ c.eq-is_lent.ensures ∙ ap (same_text _) c.as_slice.ensures in
-    sym (tail_many _ _ _ c.in-Some.ensures.token _ _ s c.in_ok-n.ensures c.if-count-ge2048.true) ∙ c.loop-token.invariant.tail
+    sym (tail_many _ _ _ c.in-Some.ensures.token _ _ s c.in_ok-n.ensures c.if-count-ge8192.true) ∙ c.loop-token.invariant.tail
 
 pub loop-token-preserved : goal.loop-token-preserved
 loop-token-preserved c =
     let s = sym c.if-is_lent.false ∙ c.eq-is_lent.ensures ∙ ap (same_text _) c.as_slice.ensures in
     record {
-      tail = sym (tail_number _ _ _ c.in-Some.ensures.token _ _ s c.in_ok-n.ensures c.if-count-ge2048.false) ∙ c.loop-token.invariant.tail;
+      tail = sym (tail_number _ _ _ c.in-Some.ensures.token _ _ s c.in_ok-n.ensures c.if-count-ge8192.false) ∙ c.loop-token.invariant.tail;
       numbers = stored_number c.loop-token.numbers c.loop-token.count _ _ _ _ (omega arith) (numbers_number _ _ _ c.in-Some.ensures.token _ s c.in_ok-n.ensures) c.loop-token.invariant.numbers;
     }
 
