@@ -13,7 +13,7 @@ use Rattle.dispatch.specs.Changing.{call_of}
 use Rattle.dispatch.proofs.Lent.{beside}
 use Rattle.dispatch.proofs.Turns.{Going, going_on, begun, ended}
 use Rattle.dispatch.proofs.changing.apply.Goals as goal
-use Rattle.dispatch.proofs.changing.apply.Goals.{in-1, in-2, in-3, in-4, in-5, in-6, in-7, in-8, in-9, in-10, in-11, in-12, in_default}
+use Rattle.dispatch.proofs.changing.apply.Goals.{in-1, in-2, in-3, in-4, in-5, in-6, in-7, in-8, in-9, in-10, in-11, in-12, in-14, in_default}
 
 pub loop-i-preserved : goal.loop-i-preserved
 unfolding call_of
@@ -37,9 +37,10 @@ loop-i-preserved c =
       | in-10 w ↦ rw (w.lent-is, w.done-is) (on _ w.forget-done.result (simp (w.in-10.is, ← c.read-tx.ensures) (beside _ _ _ w.forget-done.ensures)) same)
       | in-11 w ↦ rw (w.lent-is, w.done-is) (on _ w.record_terminal-done.result (simp (w.in-11.is, ← c.word_at-a.ensures, ← c.word_at-b.ensures, ← c.word_at-c.ensures, ← c.word_at-d.ensures) (beside _ _ _ w.record_terminal-done.ensures)) same)
       | in-12 w ↦ rw (w.lent-is, w.done-is) (on _ w.stamp_terminal-done.result (simp (w.in-12.is, ← c.word_at-a.ensures, ← c.word_at-b.ensures) (beside _ _ _ w.stamp_terminal-done.ensures)) same)
+      | in-14 w ↦ rw (w.lent-is, w.done-is) (on _ w.bundle-done.result (simp w.in-14.is (beside _ _ _ w.bundle-done.ensures)) same)
       | in_default w ↦
           let k = w.in_default.in_default-own.rest in
-          rw (w.lent-is, w.done-is) (on _ w.prune-done.result (simp (ne_eqb _ _ k.0.0.0.0.0.0.0.0.0.0.0.1, ne_eqb _ _ k.0.0.0.0.0.0.0.0.0.0.1, ne_eqb _ _ k.0.0.0.0.0.0.0.0.0.1, ne_eqb _ _ k.0.0.0.0.0.0.0.0.1, ne_eqb _ _ k.0.0.0.0.0.0.0.1, ne_eqb _ _ k.0.0.0.0.0.0.1, ne_eqb _ _ k.0.0.0.0.0.1, ne_eqb _ _ k.0.0.0.0.1, ne_eqb _ _ k.0.0.0.1, ne_eqb _ _ k.0.0.1, ne_eqb _ _ k.0.1, ne_eqb _ _ k.1, ← c.word_at-a.ensures, ← same) w.prune-done.ensures) (w.prune-done.auto.lent ∙ same))
+          rw (w.lent-is, w.done-is) (on _ w.prune-done.result (simp (ne_eqb _ _ k.0.0.0.0.0.0.0.0.0.0.0.0.1, ne_eqb _ _ k.0.0.0.0.0.0.0.0.0.0.0.1, ne_eqb _ _ k.0.0.0.0.0.0.0.0.0.0.1, ne_eqb _ _ k.0.0.0.0.0.0.0.0.0.1, ne_eqb _ _ k.0.0.0.0.0.0.0.0.1, ne_eqb _ _ k.0.0.0.0.0.0.0.1, ne_eqb _ _ k.0.0.0.0.0.0.1, ne_eqb _ _ k.0.0.0.0.0.1, ne_eqb _ _ k.0.0.0.0.1, ne_eqb _ _ k.0.0.0.1, ne_eqb _ _ k.0.0.1, ne_eqb _ _ k.0.1, ne_eqb _ _ k.1, ← c.word_at-a.ensures, ← same) w.prune-done.ensures) (w.prune-done.auto.lent ∙ same))
     ]
 
 pub loop-i-init : goal.loop-i-init
