@@ -150,7 +150,7 @@ module _ (ws : List ℕ) where
               (rw (sym four, sym two, sym three) (record { refused = refl; answers = refl; ledger = sym v.state; wrote = refl; held = v.held }));
         }
 
--- a refused bundle is undone
+-- a refused bundle leaves the ledger as it was
 pub undone : (ws : List ℕ) (r : Refusal) (l m : Ledger) → Held l → AllItems ws (contents l) (Err r) m → Meets (after_bundle ws (contents l)) [] [] (says_no r l)
 unfolding after_bundle
 undone ws r l m h d = refuses r l [] (bundle_refusal ws (contents l)) _ h (sym (refused_by ws (contents l)) ∙ sym d.refused)

@@ -7,7 +7,7 @@ ghost use Rattle.lists.specs.Lists.{keep};
 ghost use Rattle.rules.specs.Words.{is_kind, items_written};
 ghost use Rattle.rules.specs.Calls.{terminal_item, absence_item, after_item, after_bundle};
 ghost use Rattle.ledger.specs.Contents.{Held, contents};
-ghost use Rattle.ledger.specs.Meets.{Meets};
+ghost use Rattle.ledger.specs.Meets.{Meets, saying};
 ghost use Rattle.bundles.specs.Doing.{MeetsIn, Did, AllItems};
 ghost use Rattle.words.specs.Bundle.{item_of};
 
@@ -16,7 +16,7 @@ use batches::finalization::resolve_lines;
 use calls::admission::take_in;
 use calls::certificate::note_absence;
 use calls::terminal::file_terminal;
-use ledger::{Done, Ledger};
+use ledger::Ledger;
 use lists::slices::word_at;
 use types::refusal::Refusal;
 use types::{Shard, Time, Transaction};
@@ -95,21 +95,14 @@ fn all_items(ledger: &mut Ledger, words: &[u64]) -> Result<[u64; 3], Refusal>
     Ok([admitted, rebuilt, released])
 }
 
-// Does what a block brings, and answers how many admissions answered 1, how many entries were rebuilt and how many released. The ledger as
-// it was is kept for the undoing.
-pub fn bundle(ledger: Ledger, words: &[u64]) -> Done
-    requires { Held ledger }
-    ensures { Meets (after_bundle words.now (contents ledger)) [] [] result }
+// Does what a block brings, and answers how many admissions answered 1, how many entries were rebuilt and how many released. It is lent the ledger, which
+// by value would be copied more often, and does the items on a copy: where one is refused, the ledger was not touched.
+pub fn bundle(ledger: &mut Ledger, words: &[u64]) -> Result<[u64; 3], Refusal>
+    requires { Held ledger.old }
+    ensures { Meets (after_bundle words.now (contents ledger.old)) [] [] (saying result ledger.new) }
 {
-    let mut after = ledger;
-    match all_items(&mut after, words) {
-        Ok(counts) => Done {
-            said: Ok(counts),
-            ledger: after,
-        },
-        Err(refusal) => Done {
-            said: Err(refusal),
-            ledger,
-        },
-    }
+    let mut after = *ledger;
+    let counts = all_items(&mut after, words)?;
+    *ledger = after;
+    Ok(counts)
 }

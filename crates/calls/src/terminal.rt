@@ -42,8 +42,8 @@ fn check_terminal(shard: Shard, cut: Time, stamped: u64, until: Time) -> Result<
 }
 
 // Whether the shard is on file already or there is room for it.
-fn has_room(departures: &Departures, shard: Shard) -> bool
-    ensures { result ≡ has shard_of shard.0 (on_file departures.now) || not (leb 32 (length (on_file departures.now))) }
+fn has_room(departures: Departures, shard: Shard) -> bool
+    ensures { result ≡ has shard_of shard.0 (on_file departures) || not (leb 32 (length (on_file departures))) }
 {
     departures.find(shard).is_some() || departures.front.len < 32
 }
@@ -55,18 +55,20 @@ fn stamp_in(stamped: u64, until: Time) -> Option<Time>
     if stamped == 0 { None } else { Some(until) }
 }
 
-// The shard's departure put on file, stamped or not yet.
-fn file(departures: &mut Departures, shard: Shard, cut: Time, stamp: Option<Time>)
-    requires { room_for departures.old shard.0 cut.0 }
-    ensures { Holds (filed_with shard.0 cut.0 stamp (on_file departures.old)) departures.new }
+// The departures with the shard's on file, stamped or not yet.
+fn filed(departures: Departures, shard: Shard, cut: Time, stamp: Option<Time>) -> Departures
+    requires { room_for departures shard.0 cut.0 }
+    ensures { Holds (filed_with shard.0 cut.0 stamp (on_file departures)) result }
 {
-    departures.depart(shard, cut);
-    if let Some(until) = stamp {
-        departures.stamp(shard, until);
+    let known = departures.departed(shard, cut);
+    match stamp {
+        None => known,
+        Some(until) => known.stamped(shard, until),
     }
 }
 
-// A terminal, in a ledger that is lent, as the call and a bundle's item do it.
+// A terminal, in a ledger that is lent, as the call and a bundle's item do it. Inlined, so that the call copies no ledger.
+#[inline(always)]
 pub fn file_terminal(
     ledger: &mut Ledger,
     shard: Shard,
@@ -78,11 +80,11 @@ pub fn file_terminal(
     ensures { Meets (after_terminal shard.0 cut.0 stamped until.0 (contents ledger.old)) [] [] (saying result ledger.new) }
 {
     check_terminal(shard, cut, stamped, until)?;
-    if !has_room(&ledger.departures, shard) {
+    if !has_room(ledger.departures, shard) {
         return Err(Refusal::DeparturesFull);
     }
     let stamp = stamp_in(stamped, until);
-    file(&mut ledger.departures, shard, cut, stamp);
+    ledger.departures = filed(ledger.departures, shard, cut, stamp);
     Ok([0; 3])
 }
 
@@ -126,7 +128,7 @@ pub fn stamp_terminal(mut ledger: Ledger, shard: Shard, until: Time) -> Done
             ledger,
         };
     }
-    ledger.departures.stamp(shard, until);
+    ledger.departures = ledger.departures.stamped(shard, until);
     Done {
         said: Ok([0; 3]),
         ledger,

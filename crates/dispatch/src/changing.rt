@@ -67,7 +67,7 @@ pub fn apply(
             10 => done = forget(done.ledger, tx),
             11 => done = record_terminal(done.ledger, Shard(a), Time(b), c, Time(d)),
             12 => done = stamp_terminal(done.ledger, Shard(a), Time(b)),
-            14 => done = bundle(done.ledger, words),
+            14 => done.said = bundle(&mut done.ledger, words),
             _ => done = prune(done.ledger, Time(a), lent),
         }
     }

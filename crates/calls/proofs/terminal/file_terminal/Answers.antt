@@ -16,13 +16,13 @@ unfolding contents
 returns-then-not-has_room c =
     terminal_full c.args.ledger.now c.requires c.args.shard.0 c.args.cut.0 c.args.stamped c.args.until.0 c.in_ok-check_terminal.ensures (sym c.has_room.ensures ∙ c.if-not-has_room.true)
 
-pub file-requires : goal.file-requires
+pub filed-ledger-requires : goal.filed-ledger-requires
 unfolding contents
-file-requires c =
+filed-ledger-requires c =
     room c.args.ledger.now c.requires c.args.shard.0 c.args.cut.0 c.args.stamped c.args.until.0 c.in_ok-check_terminal.ensures (sym c.has_room.ensures ∙ c.if-not-has_room.false)
 
 pub returns : goal.returns
 unfolding contents
 returns c =
     terminal_filed c.args.ledger.now c.requires c.args.shard.0 c.args.cut.0 c.args.stamped c.args.until.0 c.in_ok-check_terminal.ensures (sym c.has_room.ensures ∙ c.if-not-has_room.false) _
-    (rw (c.stamp_in-stamp.ensures, filed-words c.args.shard.0 c.args.cut.0 c.args.stamped c.args.until (on_file c.args.ledger.now.departures)) at c.file.ensures) _
+    (rw (c.stamp_in-stamp.ensures, filed-words c.args.shard.0 c.args.cut.0 c.args.stamped c.args.until (on_file c.args.ledger.now.departures)) at c.filed-ledger.ensures) _

@@ -8,7 +8,7 @@ use Prim.Native.Nat.{ℕ, ◌+◌}
 use Rattle.rules.specs.Calls.{step}
 use Rattle.ledger.specs.declared.Done.{Done}
 use Rattle.ledger.specs.Contents.{contents}
-use Rattle.ledger.specs.Meets.{Meets}
+use Rattle.ledger.specs.Meets.{Meets, saying}
 use Rattle.dispatch.specs.Changing.{call_of}
 use Rattle.dispatch.proofs.Lent.{beside}
 use Rattle.dispatch.proofs.Turns.{Going, going_on, begun, ended}
@@ -37,7 +37,7 @@ loop-i-preserved c =
       | in-10 w ↦ rw (w.lent-is, w.done-is) (on _ w.forget-done.result (simp (w.in-10.is, ← c.read-tx.ensures) (beside _ _ _ w.forget-done.ensures)) same)
       | in-11 w ↦ rw (w.lent-is, w.done-is) (on _ w.record_terminal-done.result (simp (w.in-11.is, ← c.word_at-a.ensures, ← c.word_at-b.ensures, ← c.word_at-c.ensures, ← c.word_at-d.ensures) (beside _ _ _ w.record_terminal-done.ensures)) same)
       | in-12 w ↦ rw (w.lent-is, w.done-is) (on _ w.stamp_terminal-done.result (simp (w.in-12.is, ← c.word_at-a.ensures, ← c.word_at-b.ensures) (beside _ _ _ w.stamp_terminal-done.ensures)) same)
-      | in-14 w ↦ rw (w.lent-is, w.done-is) (on _ w.bundle-done.result (simp w.in-14.is (beside _ _ _ w.bundle-done.ensures)) same)
+      | in-14 w ↦ rw (w.lent-is, w.done-is) (on _ (saying w.bundle-done.result w.bundle-done.new.ledger) (simp w.in-14.is (beside _ _ _ w.bundle-done.ensures)) same)
       | in_default w ↦
           let k = w.in_default.in_default-own.rest in
           rw (w.lent-is, w.done-is) (on _ w.prune-done.result (simp (ne_eqb _ _ k.0.0.0.0.0.0.0.0.0.0.0.0.1, ne_eqb _ _ k.0.0.0.0.0.0.0.0.0.0.0.1, ne_eqb _ _ k.0.0.0.0.0.0.0.0.0.0.1, ne_eqb _ _ k.0.0.0.0.0.0.0.0.0.1, ne_eqb _ _ k.0.0.0.0.0.0.0.0.1, ne_eqb _ _ k.0.0.0.0.0.0.0.1, ne_eqb _ _ k.0.0.0.0.0.0.1, ne_eqb _ _ k.0.0.0.0.0.1, ne_eqb _ _ k.0.0.0.0.1, ne_eqb _ _ k.0.0.0.1, ne_eqb _ _ k.0.0.1, ne_eqb _ _ k.0.1, ne_eqb _ _ k.1, ← c.word_at-a.ensures, ← same) w.prune-done.ensures) (w.prune-done.auto.lent ∙ same))
