@@ -10,7 +10,7 @@ ghost use Rattle.types.specs.Refusals.{refused_in};
 ghost use Rattle.batches.specs.Abandoned.{transactions, new_to, refusal_by};
 ghost use Rattle.types.specs.Transactions.{number_of};
 
-use ledger::{Done, Ledger};
+use ledger::{Ledger, Said};
 use store::roster::Roster;
 use types::refusal::Refusal;
 use types::{Transaction, is_shard};
@@ -66,9 +66,9 @@ fn check<'a>(roster: &Roster, words: &'a [u64]) -> Result<Record<'a>, Refusal>
     Ok(groups)
 }
 
-// What a record abandons noted in a ledger that is lent, as the call and a bundle's item do it. Group by group: an owed entry takes the
-// shard's name, any other is rebuilt and put in. The running count stops at the largest word.
-pub fn note_abandonment(ledger: &mut Ledger, words: &[u64]) -> Result<[u64; 3], Refusal>
+// Notes what a record abandons, and answers how many entries were rebuilt. Group by group: an owed entry takes the shard's name, any
+// other is rebuilt and put in. The running count stops at the largest word.
+pub fn record_abandonment(ledger: &mut Ledger, words: &[u64]) -> Said
     requires { Held ledger.old }
     ensures { Meets (after_abandonment words.now (contents ledger.old)) [] [] (saying result ledger.new) }
 {
@@ -96,13 +96,4 @@ pub fn note_abandonment(ledger: &mut Ledger, words: &[u64]) -> Result<[u64; 3], 
     }
     ledger.rebuilt = ledger.rebuilt.saturating_add(rebuilt);
     Ok([rebuilt, 0, 0])
-}
-
-// Notes what a record abandons, and answers how many entries were rebuilt.
-pub fn record_abandonment(mut ledger: Ledger, words: &[u64]) -> Done
-    requires { Held ledger }
-    ensures { Meets (after_abandonment words.now (contents ledger)) [] [] result }
-{
-    let said = note_abandonment(&mut ledger, words);
-    Done { said, ledger }
 }

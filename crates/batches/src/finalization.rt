@@ -12,7 +12,7 @@ ghost use Rattle.words.specs.Lines.{plain_line};
 ghost use Rattle.types.specs.Transactions.{number_of};
 
 use entry::{Entry, Part};
-use ledger::{Done, Ledger};
+use ledger::{Ledger, Said};
 use types::refusal::Refusal;
 use types::{Shard, Transaction};
 use words::finalization::{Finalization, Line};
@@ -70,9 +70,8 @@ fn rule(finalization: Finalization<'_>, line: Line, e: &Entry, local: Shard) -> 
     decide(line.code, open, owing)
 }
 
-// What verdicts resolve, in a ledger that is lent, as the call and a bundle's item do it: line by line, skips, turns to remainder or
-// releases the entry that the line names.
-pub fn resolve_lines(ledger: &mut Ledger, words: &[u64]) -> Result<[u64; 3], Refusal>
+// Line by line, skips, turns to remainder or releases the entry that the line names, and answers how many were released.
+pub fn release_resolved(ledger: &mut Ledger, words: &[u64]) -> Said
     requires { Held ledger.old }
     ensures { Meets (after_finalization words.now (contents ledger.old)) [] [] (saying result ledger.new) }
 {
@@ -98,13 +97,4 @@ pub fn resolve_lines(ledger: &mut Ledger, words: &[u64]) -> Result<[u64; 3], Ref
         }
     }
     Ok([released, 0, 0])
-}
-
-// Resolves what a finalization's lines say, and answers how many entries were released.
-pub fn release_resolved(mut ledger: Ledger, words: &[u64]) -> Done
-    requires { Held ledger }
-    ensures { Meets (after_finalization words.now (contents ledger)) [] [] result }
-{
-    let said = resolve_lines(&mut ledger, words);
-    Done { said, ledger }
 }

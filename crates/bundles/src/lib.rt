@@ -11,19 +11,19 @@ ghost use Rattle.ledger.specs.Meets.{Meets, saying};
 ghost use Rattle.bundles.specs.Doing.{MeetsIn, Did, AllItems};
 ghost use Rattle.words.specs.Bundle.{item_of};
 
-use batches::abandonment::note_abandonment;
-use batches::finalization::resolve_lines;
-use calls::admission::take_in;
-use calls::certificate::note_absence;
-use calls::terminal::file_terminal;
-use ledger::Ledger;
+use batches::abandonment::record_abandonment;
+use batches::finalization::release_resolved;
+use calls::admission::register_committed;
+use calls::certificate::record_absence;
+use calls::terminal::record_terminal;
+use ledger::{Ledger, Said};
 use lists::slices::word_at;
 use types::refusal::Refusal;
 use types::{Shard, Time, Transaction};
 use words::bundle::Bundle;
 
 // An item that is a terminal: the four words of the call.
-fn terminal_item(ledger: &mut Ledger, words: &[u64]) -> Result<[u64; 3], Refusal>
+fn terminal_item(ledger: &mut Ledger, words: &[u64]) -> Said
     requires { Held ledger.old }
     ensures { MeetsIn (terminal_item words.now (contents ledger.old)) result ledger.new }
 {
@@ -33,11 +33,11 @@ fn terminal_item(ledger: &mut Ledger, words: &[u64]) -> Result<[u64; 3], Refusal
     let shard = Shard(word_at(words, 0));
     let cut = Time(word_at(words, 1));
     let until = Time(word_at(words, 3));
-    file_terminal(ledger, shard, cut, word_at(words, 2), until)
+    record_terminal(ledger, shard, cut, word_at(words, 2), until)
 }
 
 // An item that is an absence: transaction, shard and key.
-fn absence_item(ledger: &mut Ledger, words: &[u64]) -> Result<[u64; 3], Refusal>
+fn absence_item(ledger: &mut Ledger, words: &[u64]) -> Said
     requires { Held ledger.old }
     ensures { MeetsIn (absence_item words.now (contents ledger.old)) result ledger.new }
 {
@@ -45,19 +45,19 @@ fn absence_item(ledger: &mut Ledger, words: &[u64]) -> Result<[u64; 3], Refusal>
         return Err(Refusal::Malformed);
     }
     let tx = Transaction::read(words, 0);
-    note_absence(ledger, tx, Shard(word_at(words, 1)), word_at(words, 2))
+    record_absence(ledger, tx, Shard(word_at(words, 1)), word_at(words, 2))
 }
 
 // An item of a kind; 5 and every other kind is an absence.
-fn item(ledger: &mut Ledger, kind: u64, words: &[u64]) -> Result<[u64; 3], Refusal>
+fn item(ledger: &mut Ledger, kind: u64, words: &[u64]) -> Said
     requires { Held ledger.old }
     ensures { MeetsIn (after_item (item_of kind words.now) (contents ledger.old)) result ledger.new }
 {
     match kind {
         1 => terminal_item(ledger, words),
-        2 => note_abandonment(ledger, words),
-        3 => resolve_lines(ledger, words),
-        4 => take_in(ledger, words),
+        2 => record_abandonment(ledger, words),
+        3 => release_resolved(ledger, words),
+        4 => register_committed(ledger, words),
         _ => absence_item(ledger, words),
     }
 }
@@ -82,7 +82,7 @@ fn items(ledger: &mut Ledger, bundle: Bundle<'_>, kind: u64) -> Result<u64, Refu
 }
 
 // All items, by rising kind, and the three counts. What the ledger is after a refusal, nobody reads.
-fn all_items(ledger: &mut Ledger, words: &[u64]) -> Result<[u64; 3], Refusal>
+fn all_items(ledger: &mut Ledger, words: &[u64]) -> Said
     requires { Held ledger.old }
     ensures { AllItems words.now (contents ledger.old) result ledger.new }
 {
@@ -95,9 +95,9 @@ fn all_items(ledger: &mut Ledger, words: &[u64]) -> Result<[u64; 3], Refusal>
     Ok([admitted, rebuilt, released])
 }
 
-// Does what a block brings, and answers how many admissions answered 1, how many entries were rebuilt and how many released. It is lent the ledger, which
-// by value would be copied more often, and does the items on a copy: where one is refused, the ledger was not touched.
-pub fn bundle(ledger: &mut Ledger, words: &[u64]) -> Result<[u64; 3], Refusal>
+// Does what a block brings, and answers how many admissions answered 1, how many entries were rebuilt and how many released. The items are done on a copy: where one is
+// refused, the ledger was not touched.
+pub fn bundle(ledger: &mut Ledger, words: &[u64]) -> Said
     requires { Held ledger.old }
     ensures { Meets (after_bundle words.now (contents ledger.old)) [] [] (saying result ledger.new) }
 {

@@ -9,7 +9,7 @@ ghost use Rattle.calls.specs.Naming.{Nameable, with_pairs};
 ghost use Rattle.calls.specs.Refusals.{words_refusal};
 
 use entry::Entry;
-use ledger::{Done, Ledger};
+use ledger::{Ledger, Said};
 use store::issuers::Issuers;
 use types::refusal::Refusal;
 use types::{Shard, record_key};
@@ -45,8 +45,8 @@ fn check(words: &[u64]) -> Result<Admission<'_>, Refusal>
     Ok(admission)
 }
 
-// A transaction taken in, in a ledger that is lent, as the call and a bundle's item do it.
-pub fn take_in(ledger: &mut Ledger, words: &[u64]) -> Result<[u64; 3], Refusal>
+// Takes a transaction in, and answers 1; one that is owed already is skipped and answers 0.
+pub fn register_committed(ledger: &mut Ledger, words: &[u64]) -> Said
     requires { Held ledger.old }
     ensures { Meets (after_admission words.now (contents ledger.old)) [] [] (saying result ledger.new) }
 {
@@ -67,13 +67,4 @@ pub fn take_in(ledger: &mut Ledger, words: &[u64]) -> Result<[u64; 3], Refusal>
     name_issued(&mut ledger.issuers, &e, ledger.local);
     ledger.entries[slot] = e;
     Ok([1, 0, 0])
-}
-
-// Takes a transaction in, and answers 1; one that is owed already is skipped and answers 0.
-pub fn register_committed(mut ledger: Ledger, words: &[u64]) -> Done
-    requires { Held ledger }
-    ensures { Meets (after_admission words.now (contents ledger)) [] [] result }
-{
-    let said = take_in(&mut ledger, words);
-    Done { said, ledger }
 }

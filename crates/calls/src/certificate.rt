@@ -7,40 +7,31 @@ ghost use Rattle.ledger.specs.Meets.{Meets, saying};
 ghost use Rattle.types.specs.Transactions.{number_of};
 
 use entry::Certificate;
-use ledger::{Done, Ledger};
+use ledger::{Ledger, Said};
 use types::refusal::Refusal;
 use types::{Shard, Transaction, is_shard};
 
 // How far this shard has spoken for a transaction: the greater code is kept. The code is the word as it comes in; here it becomes a
 // certificate.
-pub fn certify(mut ledger: Ledger, tx: Transaction, code: u64) -> Done
-    requires { Held ledger }
-    ensures { Meets (after_certify (number_of tx) code (contents ledger)) [] [] result }
+pub fn certify(ledger: &mut Ledger, tx: Transaction, code: u64) -> Said
+    requires { Held ledger.old }
+    ensures { Meets (after_certify (number_of tx) code (contents ledger.old)) [] [] (saying result ledger.new) }
 {
     let Ok(certificate) = Certificate::try_from(code) else {
-        return Done {
-            said: Err(Refusal::Malformed),
-            ledger,
-        };
+        return Err(Refusal::Malformed);
     };
-    if let Some(slot) = ledger.roster.slot_of(tx) {
-        let mut e = ledger.entries[slot];
-        e.certify(certificate);
-        ledger.entries[slot] = e;
-    }
-    Done {
-        said: Ok([0; 3]),
-        ledger,
-    }
+    let Some(slot) = ledger.roster.slot_of(tx) else {
+        return Ok([0; 3]);
+    };
+    // Copied out and in: an element that was not read before cannot be lent yet.
+    let mut e = ledger.entries[slot];
+    e.certify(certificate);
+    ledger.entries[slot] = e;
+    Ok([0; 3])
 }
 
-// A sibling's cell read absent, in a ledger that is lent, as the call and a bundle's item do it.
-pub fn note_absence(
-    ledger: &mut Ledger,
-    tx: Transaction,
-    shard: Shard,
-    key: u64,
-) -> Result<[u64; 3], Refusal>
+// A sibling's cell was read absent: answers whether that is new.
+pub fn record_absence(ledger: &mut Ledger, tx: Transaction, shard: Shard, key: u64) -> Said
     requires { Held ledger.old }
     ensures { Meets (after_absence (number_of tx) (absence shard.0 key) (contents ledger.old)) [] [] (saying result ledger.new) }
 {
@@ -60,13 +51,4 @@ pub fn note_absence(
     }
     ledger.entries[slot].read_absent(shard, key);
     Ok([1, 0, 0])
-}
-
-// A sibling's cell was read absent: answers whether that is new.
-pub fn record_absence(mut ledger: Ledger, tx: Transaction, shard: Shard, key: u64) -> Done
-    requires { Held ledger }
-    ensures { Meets (after_absence (number_of tx) (absence shard.0 key) (contents ledger)) [] [] result }
-{
-    let said = note_absence(&mut ledger, tx, shard, key);
-    Done { said, ledger }
 }

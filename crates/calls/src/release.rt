@@ -3,15 +3,15 @@ ghost use Rattle.std.specs.Prelude.{[]};
 ghost use Rattle.std.specs.Fn.{FnReturnsAt};
 ghost use Rattle.rules.specs.Calls.{after_forget, after_fated};
 ghost use Rattle.ledger.specs.Contents.{Held, contents};
-ghost use Rattle.ledger.specs.Meets.{Meets};
+ghost use Rattle.ledger.specs.Meets.{Meets, saying};
 ghost use Rattle.calls.specs.Release.{Releases};
 ghost use Rattle.types.specs.Transactions.{number_of};
 
 use entry::Entry;
-use ledger::{Done, Ledger};
+use ledger::{Ledger, Said};
 use types::Transaction;
 
-// A transaction whose entry passes is let go; any other stays. Whether it went. The ledger is lent, so that nothing of it is copied.
+// A transaction whose entry passes is let go; any other stays. Whether it went.
 fn let_go<F: Fn(&Entry) -> bool>(ledger: &mut Ledger, tx: Transaction, goes: F) -> bool
     requires held { Held ledger.old }
     requires callable { (e : _) → F.pre goes e }
@@ -30,33 +30,27 @@ fn let_go<F: Fn(&Entry) -> bool>(ledger: &mut Ledger, tx: Transaction, goes: F) 
 }
 
 // Lets a transaction go with no outcome, and answers whether it was owed.
-pub fn forget(mut ledger: Ledger, tx: Transaction) -> Done
-    requires { Held ledger }
-    ensures { Meets (after_forget (number_of tx) (contents ledger)) [] [] result }
+pub fn forget(ledger: &mut Ledger, tx: Transaction) -> Said
+    requires { Held ledger.old }
+    ensures { Meets (after_forget (number_of tx) (contents ledger.old)) [] [] (saying result ledger.new) }
 {
-    let answer = if let_go(&mut ledger, tx, |_| true) {
+    let answer = if let_go(ledger, tx, |_| true) {
         1
     } else {
         0
     };
-    Done {
-        said: Ok([answer, 0, 0]),
-        ledger,
-    }
+    Ok([answer, 0, 0])
 }
 
 // A leg whose row a fate ends is let go as aborted, 2 in the answer's word; all else stays, 0.
-pub fn fated(mut ledger: Ledger, tx: Transaction) -> Done
-    requires { Held ledger }
-    ensures { Meets (after_fated (number_of tx) (contents ledger)) [] [] result }
+pub fn fated(ledger: &mut Ledger, tx: Transaction) -> Said
+    requires { Held ledger.old }
+    ensures { Meets (after_fated (number_of tx) (contents ledger.old)) [] [] (saying result ledger.new) }
 {
-    let answer = if let_go(&mut ledger, tx, |e| e.part.is_leg()) {
+    let answer = if let_go(ledger, tx, |e| e.part.is_leg()) {
         2
     } else {
         0
     };
-    Done {
-        said: Ok([answer, 0, 0]),
-        ledger,
-    }
+    Ok([answer, 0, 0])
 }

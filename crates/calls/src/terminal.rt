@@ -9,7 +9,7 @@ ghost use Rattle.ledger.specs.Meets.{Meets, saying};
 ghost use Rattle.types.specs.Refusals.{refused_in};
 ghost use Rattle.calls.specs.Terminals.{is_until, words_refusal, stamp_in, filed_with};
 
-use ledger::{Done, Ledger};
+use ledger::{Ledger, Said};
 use store::departures::Departures;
 use types::refusal::Refusal;
 use types::{Shard, Time, is_shard, is_time};
@@ -42,8 +42,8 @@ fn check_terminal(shard: Shard, cut: Time, stamped: u64, until: Time) -> Result<
 }
 
 // Whether the shard is on file already or there is room for it.
-fn has_room(departures: Departures, shard: Shard) -> bool
-    ensures { result ≡ has shard_of shard.0 (on_file departures) || not (leb 32 (length (on_file departures))) }
+fn has_room(departures: &Departures, shard: Shard) -> bool
+    ensures { result ≡ has shard_of shard.0 (on_file departures.now) || not (leb 32 (length (on_file departures.now))) }
 {
     departures.find(shard).is_some() || departures.front.len < 32
 }
@@ -55,52 +55,35 @@ fn stamp_in(stamped: u64, until: Time) -> Option<Time>
     if stamped == 0 { None } else { Some(until) }
 }
 
-// The departures with the shard's on file, stamped or not yet.
-fn filed(departures: Departures, shard: Shard, cut: Time, stamp: Option<Time>) -> Departures
-    requires { room_for departures shard.0 cut.0 }
-    ensures { Holds (filed_with shard.0 cut.0 stamp (on_file departures)) result }
+// The shard's departure put on file, stamped or not yet.
+fn file(departures: &mut Departures, shard: Shard, cut: Time, stamp: Option<Time>)
+    requires { room_for departures.old shard.0 cut.0 }
+    ensures { Holds (filed_with shard.0 cut.0 stamp (on_file departures.old)) departures.new }
 {
-    let known = departures.departed(shard, cut);
-    match stamp {
-        None => known,
-        Some(until) => known.stamped(shard, until),
+    departures.depart(shard, cut);
+    if let Some(until) = stamp {
+        departures.stamp(shard, until);
     }
 }
 
-// A terminal, in a ledger that is lent, as the call and a bundle's item do it. Inlined, so that the call copies no ledger.
-#[inline(always)]
-pub fn file_terminal(
+// The shard departed at its cut, stamped or not yet: the first cut holds, and so does the first stamp.
+pub fn record_terminal(
     ledger: &mut Ledger,
     shard: Shard,
     cut: Time,
     stamped: u64,
     until: Time,
-) -> Result<[u64; 3], Refusal>
+) -> Said
     requires { Held ledger.old }
     ensures { Meets (after_terminal shard.0 cut.0 stamped until.0 (contents ledger.old)) [] [] (saying result ledger.new) }
 {
     check_terminal(shard, cut, stamped, until)?;
-    if !has_room(ledger.departures, shard) {
+    if !has_room(&ledger.departures, shard) {
         return Err(Refusal::DeparturesFull);
     }
     let stamp = stamp_in(stamped, until);
-    ledger.departures = filed(ledger.departures, shard, cut, stamp);
+    file(&mut ledger.departures, shard, cut, stamp);
     Ok([0; 3])
-}
-
-// The shard departed at its cut, stamped or not yet: the first cut holds, and so does the first stamp.
-pub fn record_terminal(
-    mut ledger: Ledger,
-    shard: Shard,
-    cut: Time,
-    stamped: u64,
-    until: Time,
-) -> Done
-    requires { Held ledger }
-    ensures { Meets (after_terminal shard.0 cut.0 stamped until.0 (contents ledger)) [] [] result }
-{
-    let said = file_terminal(&mut ledger, shard, cut, stamped, until);
-    Done { said, ledger }
 }
 
 // The words of a stamp, by the table.
@@ -118,19 +101,11 @@ fn check_stamp(shard: Shard, until: Time) -> Result<(), Refusal>
 }
 
 // A departure on file stamped; on a shard that is not on file a stamp is nothing.
-pub fn stamp_terminal(mut ledger: Ledger, shard: Shard, until: Time) -> Done
-    requires { Held ledger }
-    ensures { Meets (after_stamp shard.0 until.0 (contents ledger)) [] [] result }
+pub fn stamp_terminal(ledger: &mut Ledger, shard: Shard, until: Time) -> Said
+    requires { Held ledger.old }
+    ensures { Meets (after_stamp shard.0 until.0 (contents ledger.old)) [] [] (saying result ledger.new) }
 {
-    if let Err(refusal) = check_stamp(shard, until) {
-        return Done {
-            said: Err(refusal),
-            ledger,
-        };
-    }
-    ledger.departures = ledger.departures.stamped(shard, until);
-    Done {
-        said: Ok([0; 3]),
-        ledger,
-    }
+    check_stamp(shard, until)?;
+    ledger.departures.stamp(shard, until);
+    Ok([0; 3])
 }

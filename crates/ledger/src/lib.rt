@@ -26,10 +26,13 @@ pub struct Ledger {
     pub ghost slots: { length entries ≡ 48 },
 }
 
-// What a changing call says, three answers (0 where it has fewer) or why it is turned away, and the ledger after it. A ledger is handed in and
-// back by value, as the claim's chain of ledgers is: what `Meets` says of a call it says of two ledgers, and `?` could not hand one back.
+// What a changing call says: three answers (0 where it has fewer), or why it is turned away. The call is lent the ledger and changes it in place, so that no
+// copy of it is made.
+pub type Said = Result<[u64; 3], Refusal>;
+
+// What a making says, and the ledger that it makes; and, where a contract speaks of a call, what it says and the ledger after it.
 #[derive(Clone, Copy)]
 pub struct Done {
-    pub said: Result<[u64; 3], Refusal>,
+    pub said: Said,
     pub ledger: Ledger,
 }

@@ -58,36 +58,35 @@ impl Departures {
         }
     }
 
-    pub fn find(self, shard: Shard) -> Option<usize>
-        ensures { result ≡ place (is_of shard.0) 0 (on_file self) }
+    pub fn find(&self, shard: Shard) -> Option<usize>
+        ensures { result ≡ place (is_of shard.0) 0 (on_file self.now) }
     {
         self.front.as_slice().iter().position(|d| d.shard == shard)
     }
 
     // How many departures are of a lower shard.
-    fn rank(self, shard: Shard) -> usize
-        ensures { result ≡ rank (is_under shard.0) (on_file self) }
+    fn rank(&self, shard: Shard) -> usize
+        ensures { result ≡ rank (is_under shard.0) (on_file self.now) }
     {
         sorted::rank(self.front.as_slice(), |d| d.shard < shard)
     }
 
     // The departure put in at k.
-    fn insert_at(self, k: usize, d: Departure) -> Departures
-        requires { (k ≤ self.front.len) × (self.front.len < 32) × Ascending shard_of (insert_at k (plain_departure d) (on_file self)) }
-        ensures { Holds (insert_at k (plain_departure d) (on_file self)) result }
+    fn insert_at(&mut self, k: usize, d: Departure)
+        requires { (k ≤ self.old.front.len) × (self.old.front.len < 32) × Ascending shard_of (insert_at k (plain_departure d) (on_file self.old)) }
+        ensures { Holds (insert_at k (plain_departure d) (on_file self.old)) self.new }
     {
-        let mut x = self;
-        x.front.insert_at(k, d);
-        x
+        self.front.insert_at(k, d);
     }
 
-    // The shard's departure put on file with its cut, unless one stands already: the first cut holds.
-    pub fn departed(self, shard: Shard, cut: Time) -> Departures
-        requires { room_for self shard.0 cut.0 }
-        ensures { Holds (departed shard.0 cut.0 (on_file self)) result }
+    // The shard's departure put on file with its cut, unless one stands already: the first cut holds. This and a stamp are done in place, so
+    // that nothing is copied.
+    pub fn depart(&mut self, shard: Shard, cut: Time)
+        requires { room_for self.old shard.0 cut.0 }
+        ensures { Holds (departed shard.0 cut.0 (on_file self.old)) self.new }
     {
         let None = self.find(shard) else {
-            return self;
+            return;
         };
         let d = Departure {
             shard,
@@ -95,20 +94,18 @@ impl Departures {
             until: None,
         };
         let k = self.rank(shard);
-        self.insert_at(k, d)
+        self.insert_at(k, d);
     }
 
     // The shard's departure stamped, unless it is stamped already or not on file: the first stamp holds.
-    pub fn stamped(self, shard: Shard, until: Time) -> Departures
-        ensures { Holds (change shard_of shard.0 (stamped until.0) (on_file self)) result }
+    pub fn stamp(&mut self, shard: Shard, until: Time)
+        ensures { Holds (change shard_of shard.0 (stamped until.0) (on_file self.old)) self.new }
     {
         let Some(i) = self.find(shard) else {
-            return self;
+            return;
         };
-        let mut x = self;
-        let d = x.front.items[i];
-        x.front.set(i, d.with_stamp(until));
-        x
+        let d = self.front.items[i];
+        self.front.set(i, d.with_stamp(until));
     }
 
     // Those whose flag is up, in their order.

@@ -3,10 +3,10 @@ ghost use Rattle.std.specs.Prelude.{◌≤◌, ◌≡◌, cond, length};
 ghost use Rattle.std.proofs.lemmas.List.Edits.{sets};
 ghost use Rattle.rules.specs.Calls.{after_closes};
 ghost use Rattle.ledger.specs.Contents.{Held, contents};
-ghost use Rattle.ledger.specs.Meets.{Meets};
+ghost use Rattle.ledger.specs.Meets.{Meets, saying};
 ghost use Rattle.sweeps.specs.Closing.{listed, Judges};
 
-use ledger::{Done, Ledger};
+use ledger::{Ledger, Said};
 use store::leaving::without_dropped;
 use types::Transaction;
 use types::refusal::Refusal;
@@ -65,23 +65,17 @@ fn list_closed(ledger: &Ledger, stay: &[bool; 48], lent: &mut [u64])
 }
 
 // Lets go and lists those that close, and answers how many.
-pub fn closes(mut ledger: Ledger, lent: &mut [u64]) -> Done
-    requires { Held ledger }
-    ensures { Meets (after_closes (length lent.old) (contents ledger)) lent.old lent.new result }
+pub fn closes(ledger: &mut Ledger, lent: &mut [u64]) -> Said
+    requires { Held ledger.old }
+    ensures { Meets (after_closes (length lent.old) (contents ledger.old)) lent.old lent.new (saying result ledger.new) }
 {
-    let c = Closing::of(&ledger);
+    let c = Closing::of(ledger);
     if lent.len() < CLOSE_WORDS * c.count {
-        return Done {
-            said: Err(Refusal::ListShort),
-            ledger,
-        };
+        return Err(Refusal::ListShort);
     }
-    list_closed(&ledger, &c.stay, lent);
+    list_closed(ledger, &c.stay, lent);
     let roster = ledger.roster;
     ledger.roster = roster.retain(c.stay);
     ledger.issuers = without_dropped(ledger.issuers, roster, c.stay);
-    Done {
-        said: Ok([c.count as u64, 0, 0]),
-        ledger,
-    }
+    Ok([c.count as u64, 0, 0])
 }

@@ -5,14 +5,14 @@ ghost use Rattle.rules.specs.Calls.{after_prune};
 ghost use Rattle.types.specs.Refusals.{refused_in};
 ghost use Rattle.entry.specs.Entry.{plain_entry};
 ghost use Rattle.ledger.specs.Contents.{Held, contents};
-ghost use Rattle.ledger.specs.Meets.{Meets};
+ghost use Rattle.ledger.specs.Meets.{Meets, saying};
 ghost use Rattle.sweeps.specs.Pruning.{begun, refusal_by, Needed, Judges};
 
 use entry::Entry;
 use judge::routes::needs;
 use judge::verdicts::{Verdict, judge};
 use judge::views::View;
-use ledger::{Done, Ledger};
+use ledger::{Ledger, Said};
 use lists::slices::part;
 use store::leaving::without_dropped;
 use types::refusal::Refusal;
@@ -111,26 +111,17 @@ fn check(time: Time, reports: usize, room: usize) -> Result<(), Refusal>
 }
 
 // Lets fall those that no longer stand, writes the reports, and answers how many it wrote and how many fell.
-pub fn prune(mut ledger: Ledger, time: Time, lent: &mut [u64]) -> Done
-    requires { Held ledger }
-    ensures { Meets (after_prune time.0 (length lent.old) (contents ledger)) lent.old lent.new result }
+pub fn prune(ledger: &mut Ledger, time: Time, lent: &mut [u64]) -> Said
+    requires { Held ledger.old }
+    ensures { Meets (after_prune time.0 (length lent.old) (contents ledger.old)) lent.old lent.new (saying result ledger.new) }
 {
-    let p = Pruning::of(&ledger, time);
-    if let Err(refusal) = check(time, p.reports, lent.len()) {
-        return Done {
-            said: Err(refusal),
-            ledger,
-        };
-    }
+    let p = Pruning::of(ledger, time);
+    check(time, p.reports, lent.len())?;
     let n = REPORT_WORDS * p.reports;
     lent[..n].copy_from_slice(part(&p.words, 0, n));
     let roster = ledger.roster;
-    let left = roster.retain(p.stay);
-    ledger.roster = left;
+    ledger.roster = roster.retain(p.stay);
     ledger.issuers = without_dropped(ledger.issuers, roster, p.stay);
     ledger.departures = ledger.departures.retain(p.needed);
-    Done {
-        said: Ok([p.reports as u64, p.fallen, 0]),
-        ledger,
-    }
+    Ok([p.reports as u64, p.fallen, 0])
 }

@@ -9,9 +9,9 @@ use Rattle.calls.proofs.release.fated.Goals as goal
 pub returns-then-let_go : goal.returns-then-let_go
 unfolding plain_entry
 returns-then-let_go c =
-    rw (fated-is c.args.ledger c.requires (number_of c.args.tx), c.if-let_go.true) at (c.let_go.ensures (λ e. is_leg e.part) (λ e b k. search (rules, tests)) 2)
+    rw (fated-is c.args.ledger.now c.requires (number_of c.args.tx), c.if-let_go.true) at (c.let_go.ensures (λ e. is_leg e.part) (λ e b k. search (rules, tests)) 2)
 
 pub returns-else-let_go : goal.returns-else-let_go
 unfolding plain_entry
 returns-else-let_go c =
-    rw (fated-is c.args.ledger c.requires (number_of c.args.tx), c.if-let_go.false) at (c.let_go.ensures (λ e. is_leg e.part) (λ e b k. search (rules, tests)) 2)
+    rw (fated-is c.args.ledger.now c.requires (number_of c.args.tx), c.if-let_go.false) at (c.let_go.ensures (λ e. is_leg e.part) (λ e b k. search (rules, tests)) 2)

@@ -6,8 +6,8 @@ use Rattle.calls.proofs.release.forget.Goals as goal
 
 pub returns-then-let_go : goal.returns-then-let_go
 returns-then-let_go c =
-    rw (forget-is c.args.ledger c.requires (number_of c.args.tx), c.if-let_go.true) at (c.let_go.ensures (λ e. true) (λ e b k. search (rules, tests)) 1)
+    rw (forget-is c.args.ledger.now c.requires (number_of c.args.tx), c.if-let_go.true) at (c.let_go.ensures (λ e. true) (λ e b k. search (rules, tests)) 1)
 
 pub returns-else-let_go : goal.returns-else-let_go
 returns-else-let_go c =
-    rw (forget-is c.args.ledger c.requires (number_of c.args.tx), c.if-let_go.false) at (c.let_go.ensures (λ e. true) (λ e b k. search (rules, tests)) 1)
+    rw (forget-is c.args.ledger.now c.requires (number_of c.args.tx), c.if-let_go.false) at (c.let_go.ensures (λ e. true) (λ e b k. search (rules, tests)) 1)

@@ -13,6 +13,6 @@ use Rattle.store.proofs.departures.Departures.find.Goals as goal
 pub returns : goal.returns
 returns c =
     let test = (λ (d : Departure). is_of c.args.shard.0 (plain_departure d)) in
-    let l = held c.args.self.front in
+    let l = held c.args.self.now.front in
     position_from_yields_List test _ _ _ c.position.ensures.ran (YieldsList-from_slice l cc) (λ x b q k. search (rules, tests))
     ∙ position_from-zero test l ∙ place_is test 0 l ∙ sym (map-place plain_departure (is_of c.args.shard.0) 0 l)

@@ -8,9 +8,9 @@ use Rattle.store.proofs.departures.Departures.insert_at.Goals as goal
 pub returns : goal.returns
 returns c =
     record {
-      file = ap (map plain_departure) c.insert_at.ensures.list ∙ map-insert_at plain_departure c.args.k c.args.d (held c.args.self.front);
+      file = ap (map plain_departure) c.insert_at.ensures.list ∙ map-insert_at plain_departure c.args.k c.args.d (held c.args.self.now.front);
     }
 
-pub invariant_of-x : goal.invariant_of-x
-invariant_of-x c =
-    record { rising = rw (c.insert_at.ensures.list, map-insert_at plain_departure c.args.k c.args.d (held c.args.self.front)) c.requires.2 }
+pub invariant_of-self : goal.invariant_of-self
+invariant_of-self c =
+    record { rising = rw (c.insert_at.ensures.list, map-insert_at plain_departure c.args.k c.args.d (held c.args.self.now.front)) c.requires.2 }

@@ -9,7 +9,7 @@ use Rattle.store.specs.Roster.{keys_of, is, below}
 use Rattle.store.proofs.Rosters.{free_slot_lem}
 use Rattle.words.proofs.Forms.{all_words_lem}
 use Rattle.calls.proofs.Admitting.{turned_away, skipped, full, nameable, admits}
-use Rattle.calls.proofs.admission.take_in.Goals as goal
+use Rattle.calls.proofs.admission.register_committed.Goals as goal
 
 -- what the roster says of the transaction it says of the words' own
 says : (f : Option ℕ) (t : ℕ) (ws us keys : List ℕ) → f ≡ place (is t) 0 keys → t ≡ (admission_terms us).transaction → us ≡ ws → (g : Option ℕ) → f ≡ g →

@@ -17,8 +17,8 @@ use Rattle.ledger.proofs.Whole.{as_it_was}
 use Rattle.ledger.specs.declared.Ledger.{Ledger}
 use Rattle.ledger.proofs.Places.{AtSlot, found_at}
 use Rattle.batches.proofs.Rebuilding.{passes_by, turned_away, rebuilding, rebuilt-few, rebuilt-all, group_owed, group_room, group_new, ranks_within}
-use Rattle.batches.proofs.abandonment.note_abandonment.Goals as goal
-use Rattle.batches.proofs.abandonment.note_abandonment.Goals.{in-Some, in-None}
+use Rattle.batches.proofs.abandonment.record_abandonment.Goals as goal
+use Rattle.batches.proofs.abandonment.record_abandonment.Goals.{in-Some, in-None}
 
 -- the group's transaction was found
 there : (c : goal.In-Some) → AtSlot c.loop-i.ledger (number_of c.transaction-tx.result) c.in-Some.k

@@ -5,7 +5,7 @@ use Rattle.entry.specs.declared.Entry.{Entry}
 use Rattle.entry.specs.Entry.{absence, plain_entry}
 use Rattle.ledger.proofs.Places.{in_slot, owed_in}
 use Rattle.calls.proofs.Single.{absence-shard, absence_unknown, absence-read, absence_full, absence_new, room_for}
-use Rattle.calls.proofs.certificate.note_absence.Goals as goal
+use Rattle.calls.proofs.certificate.record_absence.Goals as goal
 
 pub returns-then-not-is_shard : goal.returns-then-not-is_shard
 returns-then-not-is_shard c = absence-shard c.args.ledger.now c.requires (number_of c.args.tx) (absence c.args.shard.0 c.args.key) (sym c.is_shard.ensures ∙ c.if-not-is_shard.true)

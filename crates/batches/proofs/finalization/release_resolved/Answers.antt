@@ -9,8 +9,8 @@ use Rattle.ledger.specs.Contents.{slot_at}
 use Rattle.ledger.proofs.Places.{AtSlot, found_at, in_slot}
 use Rattle.ledger.proofs.Doing.{nothing-done}
 use Rattle.batches.proofs.Resolving.{turned_away, resolved, released_few, line_unknown, line_leave, line-resolve, line-release}
-use Rattle.batches.proofs.finalization.resolve_lines.Goals as goal
-use Rattle.batches.proofs.finalization.resolve_lines.Goals.{in-Skip, in-Resolve, in-Release, in-Refused}
+use Rattle.batches.proofs.finalization.release_resolved.Goals as goal
+use Rattle.batches.proofs.finalization.release_resolved.Goals.{in-Skip, in-Resolve, in-Release, in-Refused}
 
 -- the line's transaction was found
 there : (c : goal.In-Some-find) → AtSlot c.loop-i.ledger (number_of c.line-line.result.tx) c.in-Some-find.k

@@ -14,7 +14,7 @@ use Rattle.store.specs.Departures.{on_file, is_of, plain_departure}
 use Rattle.store.specs.declared.departures.Departure.{Departure}
 use Rattle.store.specs.declared.departures.Departures.{Departures}
 use Rattle.store.proofs.Filed.{file-length}
-use Rattle.store.proofs.departures.Departures.stamped.Goals as goal
+use Rattle.store.proofs.departures.Departures.stamp.Goals as goal
 
 below : (d : Departures) (shard i : ℕ) → place (is_of shard) 0 (on_file d) ≡ Some i → i < d.front.len
 below d shard i e = omega (arith, (located shard_of shard (on_file d) i e).below, file-length d)
@@ -22,17 +22,17 @@ below d shard i e = omega (arith, (located shard_of shard (on_file d) i e).below
 pub returns-in_default : goal.returns-in_default
 returns-in_default c =
     record {
-      file = sym ((missing shard_of c.args.shard.0 (on_file c.args.self) (sym c.find.ensures ∙ c.in_default.is)).changed (stamped c.args.until.0));
+      file = sym ((missing shard_of c.args.shard.0 (on_file c.args.self.now) (sym c.find.ensures ∙ c.in_default.is)).changed (stamped c.args.until.0));
     }
 
-pub offset_bounds-x-i : goal.offset_bounds-x-i
-offset_bounds-x-i c = omega (arith, below c.args.self _ c.in-Some.i (sym c.find.ensures ∙ c.in-Some.is), c.args.self.front.room)
+pub offset_bounds-self-i : goal.offset_bounds-self-i
+offset_bounds-self-i c = omega (arith, below c.args.self.now _ c.in-Some.i (sym c.find.ensures ∙ c.in-Some.is), c.args.self.now.front.room)
 
-pub bounds-x-i : goal.bounds-x-i
-bounds-x-i c = omega (arith, below c.args.self _ c.in-Some.i (sym c.find.ensures ∙ c.in-Some.is), c.args.self.front.room)
+pub bounds-self-i : goal.bounds-self-i
+bounds-self-i c = omega (arith, below c.args.self.now _ c.in-Some.i (sym c.find.ensures ∙ c.in-Some.is), c.args.self.now.front.room)
 
 pub set-requires : goal.set-requires
-set-requires c = (omega arith, below c.args.self _ c.in-Some.i (sym c.find.ensures ∙ c.in-Some.is))
+set-requires c = (omega arith, below c.args.self.now _ c.in-Some.i (sym c.find.ensures ∙ c.in-Some.is))
 
 -- the departure at i with its first stamp
 renewed : (x : Departures) (shard until i : ℕ) (e new : Departure) (l : List Departure) → place (is_of shard) 0 (on_file x) ≡ Some i → l ≡ set (held x.front) i new →
@@ -44,12 +44,12 @@ renewed x shard until i e new l found put is =
 
 pub returns : goal.returns
 returns c =
-    let x = c.args.self in
+    let x = c.args.self.now in
     record { file = renewed x c.args.shard.0 c.args.until.0 c.in-Some.i _ c.with_stamp.result _ (sym c.find.ensures ∙ c.in-Some.is) c.set.ensures.list c.with_stamp.ensures }
 
-pub invariant_of-x : goal.invariant_of-x
-invariant_of-x c =
-    let x = c.args.self in
+pub invariant_of-self : goal.invariant_of-self
+invariant_of-self c =
+    let x = c.args.self.now in
     record {
       rising =
           rw (renewed x c.args.shard.0 c.args.until.0 c.in-Some.i _ c.with_stamp.result _ (sym c.find.ensures ∙ c.in-Some.is) c.set.ensures.list c.with_stamp.ensures)
