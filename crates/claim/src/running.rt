@@ -27,8 +27,9 @@ pub fn run_calls(start: Ledger, calls: &[u64], lent: &mut [u64]) -> Ledger
         let count = word_at(calls, at + 2);
         let from = at_most(at as u64 + 3, calls.len());
         let end = from + at_most(count, calls.len() - from);
-        let done = apply(ledger, kind, &calls[from..end], &mut lent[..room], 1, 0);
-        ledger = done.ledger;
+        let list = &mut lent[..room];
+        // What it says is not handed back: the claim speaks of the ledger and of the list.
+        let _said = apply(&mut ledger, kind, &calls[from..end], list, 1, 0);
         at = end;
     }
     ledger

@@ -69,13 +69,12 @@ pub fn prune_all(
     for i in 0..clocks.len() {
         let clock = Time(clocks[i]);
         let at = REPORT_WORDS * written;
-        let done = prune(ledger, clock, &mut reports[at..]);
-        let said = done.said.unwrap_or([0; 3]); // never refused: a time, and room enough
+        let answered = prune(&mut ledger, clock, &mut reports[at..]);
+        let said = answered.unwrap_or([0; 3]); // never refused: a time, and room enough
         let reported = said[0];
         let gone = said[1];
         counts[2 * i] = reported;
         counts[2 * i + 1] = gone;
-        ledger = done.ledger;
         let is_early = i < k;
         if is_early {
             between = ledger;

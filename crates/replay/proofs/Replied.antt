@@ -10,8 +10,8 @@ use Rattle.std.specs.Prelude.{Result}
 use Rattle.rules.specs.Readings.{read}
 use Rattle.types.specs.declared.refusal.Refusal.{Refusal}
 use Rattle.ledger.specs.declared.Ledger.{Ledger}
-use Rattle.ledger.specs.declared.Done.{Done}
 use Rattle.ledger.specs.Contents.{contents, Held}
+use Rattle.ledger.specs.Meets.{saying}
 use Rattle.readings.specs.Reads.{Reads}
 use Rattle.dispatch.specs.Changing.{Turned}
 use Rattle.dispatch.specs.Reading.{reading_of}
@@ -26,10 +26,10 @@ once_at_least (suc n) = omega arith
 filled_anew : (was list : List ℕ) → list ≡ replicate (length was) fill_word → list ≡ filled was
 filled_anew was list e = e ∙ splat_is_map was (length was) fill_word refl
 
-pub changed : (code : ℕ) (words : List ℕ) (times turns : ℕ) (l : Ledger) (was list now : List ℕ) (r : Done) → turns ≡ max times 1 →
-    list ≡ replicate (length was) fill_word → Turned turns fill_word (call_in code words (length list)) l list now r →
-    Changed code words times l was now r.said r.ledger
-changed code words times turns l was list now r t f turned =
+pub changed : (code : ℕ) (words : List ℕ) (times turns : ℕ) (l : Ledger) (was list now : List ℕ) (reply : Reply) (r : Ledger) → turns ≡ max times 1 →
+    list ≡ replicate (length was) fill_word → Turned turns fill_word (call_in code words (length list)) l list now (saying reply r) →
+    Changed code words times l was now reply r
+changed code words times turns l was list now reply r t f turned =
     let e : list ≡ filled was = filled_anew was list f in
     let n : length list ≡ length was = ap length e ∙ length-map was (λ w. fill_word) in
     rw (t ∙ once_at_least times, n, e) at turned

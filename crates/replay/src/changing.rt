@@ -27,7 +27,7 @@ pub fn renew(ledger: &mut Ledger, words: &[u64], times: u64) -> Reply
     done.said
 }
 
-// The call of a code as often as is said, and once at least: each time on the ledger that the last handed back and on the list filled anew. A
+// The call of a code as often as is said, and once at least: each time on the ledger that the last left and on the list filled anew. A
 // kind says how far behind `new` the call stands in the table.
 #[tactic(auto, using(crate::proofs::Replied::changed))]
 pub fn apply(ledger: &mut Ledger, code: Code, words: &[u64], list: &mut [u64], times: u64) -> Reply
@@ -36,7 +36,5 @@ pub fn apply(ledger: &mut Ledger, code: Code, words: &[u64], list: &mut [u64], t
 {
     let kind = code.place.saturating_sub(NEW) as u64;
     list.fill(FILL);
-    let done = changing::apply(*ledger, kind, words, list, times.max(1), FILL);
-    *ledger = done.ledger;
-    done.said
+    changing::apply(ledger, kind, words, list, times.max(1), FILL)
 }

@@ -120,7 +120,8 @@ pub fn prune(ledger: &mut Ledger, time: Time, lent: &mut [u64]) -> Said
     let n = REPORT_WORDS * p.reports;
     lent[..n].copy_from_slice(part(&p.words, 0, n));
     let roster = ledger.roster;
-    ledger.roster = roster.retain(p.stay);
+    let left = roster.retain(p.stay);
+    ledger.roster = left;
     ledger.issuers = without_dropped(ledger.issuers, roster, p.stay);
     ledger.departures = ledger.departures.retain(p.needed);
     Ok([p.reports as u64, p.fallen, 0])

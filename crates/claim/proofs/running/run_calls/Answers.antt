@@ -24,14 +24,14 @@ loop-at-preserved c =
     let lent-on : length (take room l.lent) ≡ min (word (l.at + 1) ws) limit =
     simp length-take (omega (arith, c.at_most-room.ensures, c.word_at.ensures, l.auto.lent)) in
     let next = decode-next limit ws l.at from end (omega arith) c.at_most-from.ensures (ap (λ k. from + k) counted) in
-    let did = simp (c.word_at-kind.ensures, lent-on) at c.apply-done.ensures in
+    let did = simp (c.word_at-kind.ensures, lent-on) at c.apply-said.ensures in
     let call = call_of (word l.at ws) (take (end - from) (drop from ws)) (min (word (l.at + 1) ws) limit) in
-    let last = c.apply-done.new.lent in
+    let last = c.apply-said.new.lent in
     let rest = decode limit (drop end ws) in (
       omega arith,
       did.held,
       ap (run rest) did.ledger ∙ (rw next at l.invariant.2),
-      ap₂ (lent_after rest) did.ledger (lent-front (step call (contents l.ledger)).words l.lent last room did.wrote c.apply-done.auto.lent) ∙ (rw next at l.invariant.3),
+      ap₂ (lent_after rest) did.ledger (lent-front (step call (contents l.ledger)).words l.lent last room did.wrote c.apply-said.auto.lent) ∙ (rw next at l.invariant.3),
     )
 
 pub returns : goal.returns
