@@ -137,9 +137,10 @@ same_count l p es e = ap (λ (p : Plain). p.rebuilt) e
 
 -- after the last
 pub rebuilt-all : (l₀ : Ledger) (ws : List ℕ) (l : Ledger) (start n i sum : ℕ) → Held l₀ → 0 ≡ refusal_by (keys_of l₀.roster) ws → record_formed ws ≡ true → Rebuilding l₀ ws l start n i →
-    group_count ws ≤ i → sum ≡ min (l.rebuilt + n) max_count → (z : length l.entries ≡ 48) → Meets (after_abandonment ws (contents l₀)) [] [] (says n (with_count l sum z))
+    group_count ws ≤ i → sum ≡ min (l.rebuilt + n) max_count → (given : List ℕ) → ws ≡ given → (z : length l.entries ≡ 48) →
+    Meets (after_abandonment given (contents l₀)) [] [] (says n (with_count l sum z))
 unfolding after_abandonment
-rebuilt-all l₀ ws l start n i sum held none f v h q z =
+rebuilt-all l₀ ws l start n i sum held none f v h q given same z =
     let e : abandonment_refusal ws (contents l₀) ≡ 0 = sym (by_keys l₀ held ws) ∙ sym none in
     let gs = record_groups ws in
     let p = contents l₀ in
@@ -148,9 +149,10 @@ rebuilt-all l₀ ws l start n i sum held none f v h q z =
     let many : n ≡ rebuilt_by (record_shard ws) gs p.entries = d.1 ∙ tally-entries (λ h. with_group (record_shard ws)) (λ h. rebuilt_of) gs p in
     let sums : sum ≡ min (p.rebuilt + n) max_count = q ∙ ap (λ k. min (k + n) max_count) (same_count l p _ es) in
     let b = counted l v.doing.held sum (omega arith) z in
-    passes (abandonment_refusal ws p) p _ [] [] (says n (with_count l sum z)) e
+    rw (← same)
+    (passes (abandonment_refusal ws p) p _ [] [] (says n (with_count l sum z)) e
     (rw (sym many)
-    (answers n (with_count l sum z) _ _ (record { held = b.held; holds = b.holds ∙ ap₂ with_rebuilt sums es }) refl))
+    (answers n (with_count l sum z) _ _ (record { held = b.held; holds = b.holds ∙ ap₂ with_rebuilt sums es }) refl)))
 
 -- a turn of the loop: the group's transaction t was read, and the ledger after it
 module _ (l₀ : Ledger) (ws : List ℕ) (p : Passed ws (contents l₀)) (l : Ledger) (start n i : ℕ) (v : Rebuilding l₀ ws l start n i) (h : i < group_count ws)

@@ -2,4 +2,3 @@ pub mod Places
 pub mod Lift
 pub mod Meeting
 pub mod Doing
-pub mod Whole

@@ -1,6 +1,6 @@
 -- A turn of the loop is one group: an owed entry takes the shard, any other is rebuilt.
 use Rattle.std.specs.Prelude.{Err}
-use Rattle.std.proofs.Common.{◌≡◌, sym, ap, ◌∙◌, ◌+◌, ◌≤◌, [], length, arith, rules}
+use Rattle.std.proofs.Common.{◌≡◌, sym, ap, ◌∙◌, ◌+◌, ◌≤◌, length, arith, rules}
 use Rattle.types.specs.Transactions.{number_of}
 use Rattle.lists.specs.Lists.{Every}
 use Rattle.rules.specs.Numbers.{is_word}
@@ -10,10 +10,7 @@ use Rattle.words.proofs.Forms.{all_words_lem}
 use Rattle.words.proofs.Groups.{recorded, reach-within, group_transaction_lem}
 use Rattle.rules.specs.Entries.{with_departed_by}
 use Rattle.entry.specs.Entry.{plain_entry}
-use Rattle.rules.specs.Calls.{after_abandonment}
-use Rattle.ledger.specs.Contents.{contents, lying_at, with_count}
-use Rattle.ledger.specs.Meets.{Meets, says}
-use Rattle.ledger.proofs.Whole.{as_it_was}
+use Rattle.ledger.specs.Contents.{lying_at}
 use Rattle.ledger.specs.declared.Ledger.{Ledger}
 use Rattle.ledger.proofs.Places.{AtSlot, found_at}
 use Rattle.batches.proofs.Rebuilding.{passes_by, turned_away, rebuilding, rebuilt-few, rebuilt-all, group_owed, group_room, group_new, ranks_within}
@@ -83,7 +80,5 @@ pub returns : goal.returns
 returns c =
     let ws = c.in_ok-groups.groups.words.now in
     let l : Ledger = c.loop-i.ledger in
-    as_it_was (λ y. Meets (after_abandonment c.args.words.now (contents c.args.ledger.now)) [] [] (says c.loop-i.rebuilt y)) (with_count l c.saturating_add-ledger.result l.slots)
-    (rw c.in_ok-groups.ensures.read at
-    (rebuilt-all c.args.ledger.now ws l c.loop-i.at c.loop-i.rebuilt c.loop-i.i c.saturating_add-ledger.result c.requires (rw (sym c.in_ok-groups.ensures.read) at c.in_ok-groups.ensures.refused) c.in_ok-groups.groups.formed
-    c.loop-i.invariant (omega (arith, c.loop-i-test.false, c.len-i-end.ensures)) c.saturating_add-ledger.ensures l.slots)) _
+    rebuilt-all c.args.ledger.now ws l c.loop-i.at c.loop-i.rebuilt c.loop-i.i _ c.requires (rw (sym c.in_ok-groups.ensures.read) at c.in_ok-groups.ensures.refused) c.in_ok-groups.groups.formed
+    c.loop-i.invariant (omega (arith, c.loop-i-test.false, c.len-i-end.ensures)) c.saturating_add-ledger.ensures c.args.words.now c.in_ok-groups.ensures.read _
