@@ -95,8 +95,8 @@ fn all_items(ledger: &mut Ledger, words: &[u64]) -> Said
     Ok([admitted, rebuilt, released])
 }
 
-// Does what a block brings, and answers how many admissions answered 1, how many entries were rebuilt and how many released. The items are done on a copy: where one is
-// refused, the ledger was not touched.
+// Does what a block brings, and answers how many admissions answered 1, how many entries were rebuilt and how many released. The items are
+// done on a copy: where one is refused, the ledger was not touched.
 pub fn bundle(ledger: &mut Ledger, words: &[u64]) -> Said
     requires { Held ledger.old }
     ensures { Meets (after_bundle words.now (contents ledger.old)) [] [] (saying result ledger.new) }

@@ -1,5 +1,5 @@
-// Making a ledger, and the calls on one transaction or one shard. Each takes the ledger and hands it back with what it says, and a refusal
-// changes neither the ledger nor the lent list.
+// Making a ledger, and the calls on one transaction or one shard. Each is lent the ledger and changes it in place; a refusal changes neither
+// the ledger nor the lent list.
 #![tactic(auto)]
 
 pub mod admission;

@@ -51,22 +51,22 @@ pub fn apply(
     let mut said = Ok([0; 3]);
     for i in 0..turns {
         refill(lent, blank, 0 < i);
-        match kind {
-            1 => said = register_committed(ledger, words),
-            2 => said = record_absence(ledger, tx, Shard(b), c),
-            3 => said = certify(ledger, tx, b),
-            4 => said = record_abandonment(ledger, words),
-            5 => said = settled(ledger, RecordKey(a), second),
-            6 => said = returned(ledger, RecordKey(a), second),
-            7 => said = closes(ledger, lent),
-            8 => said = fated(ledger, tx),
-            9 => said = release_resolved(ledger, words),
-            10 => said = forget(ledger, tx),
-            11 => said = record_terminal(ledger, Shard(a), Time(b), c, Time(d)),
-            12 => said = stamp_terminal(ledger, Shard(a), Time(b)),
-            14 => said = bundle(ledger, words),
-            _ => said = prune(ledger, Time(a), lent),
-        }
+        said = match kind {
+            1 => register_committed(ledger, words),
+            2 => record_absence(ledger, tx, Shard(b), c),
+            3 => certify(ledger, tx, b),
+            4 => record_abandonment(ledger, words),
+            5 => settled(ledger, RecordKey(a), second),
+            6 => returned(ledger, RecordKey(a), second),
+            7 => closes(ledger, lent),
+            8 => fated(ledger, tx),
+            9 => release_resolved(ledger, words),
+            10 => forget(ledger, tx),
+            11 => record_terminal(ledger, Shard(a), Time(b), c, Time(d)),
+            12 => stamp_terminal(ledger, Shard(a), Time(b)),
+            14 => bundle(ledger, words),
+            _ => prune(ledger, Time(a), lent),
+        };
     }
     said
 }

@@ -26,8 +26,8 @@ pub struct Ledger {
     pub ghost slots: { length entries ≡ 48 },
 }
 
-// What a changing call says: three answers (0 where it has fewer), or why it is turned away. The call is lent the ledger and changes it in place, so that no
-// copy of it is made.
+// What a changing call says: three answers (0 where it has fewer), or why it is turned away. The call is lent the ledger and changes it in
+// place, so that no copy of it is made.
 pub type Said = Result<[u64; 3], Refusal>;
 
 // What a making says, and the ledger that it makes; and, where a contract speaks of a call, what it says and the ledger after it.

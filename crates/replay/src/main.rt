@@ -13,7 +13,7 @@ use script::{Line, Reader, Writer};
 use types::Shard;
 
 // Line by line to the end of the script, or to a line that is malformed or names a call that is not there. `repeat` says how often the next
-// call is made, where one waits for its call. The calls are made here, since a function around them would copy the ledger twice more a line.
+// call is made, where one waits for its call.
 #[tactic(auto, using(crate::proofs::Replied::changed_held))]
 fn main(rt: HostRuntime) {
     let mut reader = Reader::new(rt.stdin());

@@ -95,7 +95,7 @@ impl Issuers {
         self.stands_at(k, r, t)
     }
 
-    // The pair put in, unless it stands already. The index is lent, so that an admission names all its records in one copy of it.
+    // The pair put in, unless it stands already. This and taking out are done in place, so that nothing is copied.
     pub fn name(&mut self, r: RecordKey, t: Transaction)
         requires { room_for self.old r.0 (number_of t) }
         ensures { Holds (include pair_key (pair r.0 (number_of t)) (pairs_in self.old)) self.new }
