@@ -8,7 +8,7 @@ use Prim.Native.Nat.{ℕ, ◌+◌}
 use Rattle.rules.specs.Calls.{step}
 use Rattle.ledger.specs.declared.Done.{Done}
 use Rattle.ledger.specs.Contents.{contents}
-use Rattle.ledger.specs.Meets.{Meets, saying}
+use Rattle.ledger.specs.Meets.{Meets}
 use Rattle.dispatch.specs.Changing.{call_of}
 use Rattle.dispatch.proofs.Lent.{beside}
 use Rattle.dispatch.proofs.Turns.{Going, going_on, begun, ended}
@@ -25,22 +25,22 @@ loop-i-preserved c =
     λ later s m e. going_on _ _ _ _ _ _ _ _ _ c.loop-i.i c.loop-i.invariant c.refill.ensures m e in
     -- in-5 and in-6 search for what the call says: edits that exchange the two calls or their words are then refused for that fact, and for no name
     elim c.match-kind.branch [
-      | in-1 w ↦ rw (w.ledger-is, w.lent-is, w.said-is) (on _ (saying w.register_committed-said.result w.register_committed-said.new.ledger) (simp w.in-1.is (beside _ _ _ w.register_committed-said.ensures)) same)
-      | in-2 w ↦ rw (w.ledger-is, w.lent-is, w.said-is) (on _ (saying w.record_absence-said.result w.record_absence-said.new.ledger) (simp (w.in-2.is, ← c.read-tx.ensures, ← c.word_at-b.ensures, ← c.word_at-c.ensures) (beside _ _ _ w.record_absence-said.ensures)) same)
-      | in-3 w ↦ rw (w.ledger-is, w.lent-is, w.said-is) (on _ (saying w.certify-said.result w.certify-said.new.ledger) (simp (w.in-3.is, ← c.read-tx.ensures, ← c.word_at-b.ensures) (beside _ _ _ w.certify-said.ensures)) same)
-      | in-4 w ↦ rw (w.ledger-is, w.lent-is, w.said-is) (on _ (saying w.record_abandonment-said.result w.record_abandonment-said.new.ledger) (simp w.in-4.is (beside _ _ _ w.record_abandonment-said.ensures)) same)
-      | in-5 w ↦ rw (w.ledger-is, w.lent-is, w.said-is) (on _ (saying w.settled-said.result w.settled-said.new.ledger) (simp (w.in-5.is, ← c.word_at-a.ensures, ← c.read-second.ensures) (beside _ _ _ (search rules))) same)
-      | in-6 w ↦ rw (w.ledger-is, w.lent-is, w.said-is) (on _ (saying w.returned-said.result w.returned-said.new.ledger) (simp (w.in-6.is, ← c.word_at-a.ensures, ← c.read-second.ensures) (beside _ _ _ (search rules))) same)
-      | in-7 w ↦ rw (w.ledger-is, w.lent-is, w.said-is) (on _ (saying w.closes-said.result w.closes-said.new.ledger) (simp (w.in-7.is, ← same) w.closes-said.ensures) (w.closes-said.auto.lent ∙ same))
-      | in-8 w ↦ rw (w.ledger-is, w.lent-is, w.said-is) (on _ (saying w.fated-said.result w.fated-said.new.ledger) (simp (w.in-8.is, ← c.read-tx.ensures) (beside _ _ _ w.fated-said.ensures)) same)
-      | in-9 w ↦ rw (w.ledger-is, w.lent-is, w.said-is) (on _ (saying w.release_resolved-said.result w.release_resolved-said.new.ledger) (simp w.in-9.is (beside _ _ _ w.release_resolved-said.ensures)) same)
-      | in-10 w ↦ rw (w.ledger-is, w.lent-is, w.said-is) (on _ (saying w.forget-said.result w.forget-said.new.ledger) (simp (w.in-10.is, ← c.read-tx.ensures) (beside _ _ _ w.forget-said.ensures)) same)
-      | in-11 w ↦ rw (w.ledger-is, w.lent-is, w.said-is) (on _ (saying w.record_terminal-said.result w.record_terminal-said.new.ledger) (simp (w.in-11.is, ← c.word_at-a.ensures, ← c.word_at-b.ensures, ← c.word_at-c.ensures, ← c.word_at-d.ensures) (beside _ _ _ w.record_terminal-said.ensures)) same)
-      | in-12 w ↦ rw (w.ledger-is, w.lent-is, w.said-is) (on _ (saying w.stamp_terminal-said.result w.stamp_terminal-said.new.ledger) (simp (w.in-12.is, ← c.word_at-a.ensures, ← c.word_at-b.ensures) (beside _ _ _ w.stamp_terminal-said.ensures)) same)
-      | in-14 w ↦ rw (w.ledger-is, w.lent-is, w.said-is) (on _ (saying w.bundle-said.result w.bundle-said.new.ledger) (simp w.in-14.is (beside _ _ _ w.bundle-said.ensures)) same)
+      | in-1 w ↦ rw (w.ledger-is, w.lent-is, w.said-is) (on _ _ (simp w.in-1.is (beside _ _ _ w.register_committed-said.ensures)) same)
+      | in-2 w ↦ rw (w.ledger-is, w.lent-is, w.said-is) (on _ _ (simp (w.in-2.is, ← c.read-tx.ensures, ← c.word_at-b.ensures, ← c.word_at-c.ensures) (beside _ _ _ w.record_absence-said.ensures)) same)
+      | in-3 w ↦ rw (w.ledger-is, w.lent-is, w.said-is) (on _ _ (simp (w.in-3.is, ← c.read-tx.ensures, ← c.word_at-b.ensures) (beside _ _ _ w.certify-said.ensures)) same)
+      | in-4 w ↦ rw (w.ledger-is, w.lent-is, w.said-is) (on _ _ (simp w.in-4.is (beside _ _ _ w.record_abandonment-said.ensures)) same)
+      | in-5 w ↦ rw (w.ledger-is, w.lent-is, w.said-is) (on _ _ (simp (w.in-5.is, ← c.word_at-a.ensures, ← c.read-second.ensures) (beside _ _ _ (search rules))) same)
+      | in-6 w ↦ rw (w.ledger-is, w.lent-is, w.said-is) (on _ _ (simp (w.in-6.is, ← c.word_at-a.ensures, ← c.read-second.ensures) (beside _ _ _ (search rules))) same)
+      | in-7 w ↦ rw (w.ledger-is, w.lent-is, w.said-is) (on _ _ (simp (w.in-7.is, ← same) w.closes-said.ensures) (w.closes-said.auto.lent ∙ same))
+      | in-8 w ↦ rw (w.ledger-is, w.lent-is, w.said-is) (on _ _ (simp (w.in-8.is, ← c.read-tx.ensures) (beside _ _ _ w.fated-said.ensures)) same)
+      | in-9 w ↦ rw (w.ledger-is, w.lent-is, w.said-is) (on _ _ (simp w.in-9.is (beside _ _ _ w.release_resolved-said.ensures)) same)
+      | in-10 w ↦ rw (w.ledger-is, w.lent-is, w.said-is) (on _ _ (simp (w.in-10.is, ← c.read-tx.ensures) (beside _ _ _ w.forget-said.ensures)) same)
+      | in-11 w ↦ rw (w.ledger-is, w.lent-is, w.said-is) (on _ _ (simp (w.in-11.is, ← c.word_at-a.ensures, ← c.word_at-b.ensures, ← c.word_at-c.ensures, ← c.word_at-d.ensures) (beside _ _ _ w.record_terminal-said.ensures)) same)
+      | in-12 w ↦ rw (w.ledger-is, w.lent-is, w.said-is) (on _ _ (simp (w.in-12.is, ← c.word_at-a.ensures, ← c.word_at-b.ensures) (beside _ _ _ w.stamp_terminal-said.ensures)) same)
+      | in-14 w ↦ rw (w.ledger-is, w.lent-is, w.said-is) (on _ _ (simp w.in-14.is (beside _ _ _ w.bundle-said.ensures)) same)
       | in_default w ↦
           let k = w.in_default.in_default-own.rest in
-          rw (w.ledger-is, w.lent-is, w.said-is) (on _ (saying w.prune-said.result w.prune-said.new.ledger) (simp (ne_eqb _ _ k.0.0.0.0.0.0.0.0.0.0.0.0.1, ne_eqb _ _ k.0.0.0.0.0.0.0.0.0.0.0.1, ne_eqb _ _ k.0.0.0.0.0.0.0.0.0.0.1, ne_eqb _ _ k.0.0.0.0.0.0.0.0.0.1, ne_eqb _ _ k.0.0.0.0.0.0.0.0.1, ne_eqb _ _ k.0.0.0.0.0.0.0.1, ne_eqb _ _ k.0.0.0.0.0.0.1, ne_eqb _ _ k.0.0.0.0.0.1, ne_eqb _ _ k.0.0.0.0.1, ne_eqb _ _ k.0.0.0.1, ne_eqb _ _ k.0.0.1, ne_eqb _ _ k.0.1, ne_eqb _ _ k.1, ← c.word_at-a.ensures, ← same) w.prune-said.ensures) (w.prune-said.auto.lent ∙ same))
+          rw (w.ledger-is, w.lent-is, w.said-is) (on _ _ (simp (ne_eqb _ _ k.0.0.0.0.0.0.0.0.0.0.0.0.1, ne_eqb _ _ k.0.0.0.0.0.0.0.0.0.0.0.1, ne_eqb _ _ k.0.0.0.0.0.0.0.0.0.0.1, ne_eqb _ _ k.0.0.0.0.0.0.0.0.0.1, ne_eqb _ _ k.0.0.0.0.0.0.0.0.1, ne_eqb _ _ k.0.0.0.0.0.0.0.1, ne_eqb _ _ k.0.0.0.0.0.0.1, ne_eqb _ _ k.0.0.0.0.0.1, ne_eqb _ _ k.0.0.0.0.1, ne_eqb _ _ k.0.0.0.1, ne_eqb _ _ k.0.0.1, ne_eqb _ _ k.0.1, ne_eqb _ _ k.1, ← c.word_at-a.ensures, ← same) w.prune-said.ensures) (w.prune-said.auto.lent ∙ same))
     ]
 
 pub loop-i-init : goal.loop-i-init
