@@ -1,5 +1,5 @@
-// A bundle: what a block brings, handed over at once. Its items change the ledger in place, by rising kind; the first that is refused
-// refuses the bundle and undoes the rest.
+// A bundle: what a block brings, handed over at once. Its items change a copy of the ledger, by rising kind, each as its single call does; the
+// first that is refused refuses the bundle, and the copy is dropped.
 #![tactic(auto)]
 
 ghost use Rattle.std.specs.Prelude.{[]};

@@ -34,11 +34,7 @@ pub fn forget(ledger: &mut Ledger, tx: Transaction) -> Said
     requires { Held ledger.old }
     ensures { Meets (after_forget (number_of tx) (contents ledger.old)) [] [] (saying result ledger.new) }
 {
-    let answer = if let_go(ledger, tx, |_| true) {
-        1
-    } else {
-        0
-    };
+    let answer = if let_go(ledger, tx, |_| true) { 1 } else { 0 };
     Ok([answer, 0, 0])
 }
 

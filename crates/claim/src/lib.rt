@@ -1,5 +1,5 @@
-// The one claim about every list of calls and every list of clocks after it: the calls are read from words, each is given the ledger
-// that the last handed back, and then the prunes are.
+// The one claim about every list of calls and every list of clocks after it: the calls are read from words, each is lent the ledger
+// that the last left, and then the prunes are.
 #![tactic(auto)]
 
 mod running;

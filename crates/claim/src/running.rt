@@ -13,7 +13,7 @@ fn at_most(n: u64, limit: usize) -> usize
     n.min(limit as u64) as usize
 }
 
-// The calls that the words hold, each given the ledger that the one before handed back and the front of the list as that one left it.
+// The calls that the words hold, each lent the ledger, and the front of the list, as the one before left them.
 pub fn run_calls(start: Ledger, calls: &[u64], lent: &mut [u64]) -> Ledger
     requires { Held start }
     ensures { Ran (decode (length lent.old) calls.now) (contents start) lent.old lent.new result }

@@ -26,7 +26,7 @@ call_of kind ws room =
     (cond (eqb kind 14) (bundle ws)
     (prune (word 0 ws) room)))))))))))))
 
--- the plain ledger after so many turns of a call, each on the ledger that the last handed back
+-- the plain ledger after so many turns of a call, each on the ledger that the last left
 abbrev pub after : ℕ → Call → Plain → Plain
 after zero c p = p
 after (suc n) c p = (step c (after n c p)).ledger
@@ -36,7 +36,7 @@ abbrev pub list_before : ℕ → ℕ → List ℕ → List ℕ
 list_before zero blank lent = lent
 list_before (suc n) blank lent = map (λ w. blank) lent
 
--- what is handed back after so many turns: the last one's outcome; after none nothing is said and all is as it was
+-- what is left after so many turns: the last one's outcome; after none nothing is said and all is as it was
 abbrev pub Turned : ℕ → ℕ → Call → Ledger → List ℕ → List ℕ → Done → Type 0
 Turned zero blank c l lent now r = (r ≡ says 0 l) × (now ≡ lent)
 Turned (suc n) blank c l lent now r = Meets (step c (after n c (contents l))) (list_before n blank lent) now r
