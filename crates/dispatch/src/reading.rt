@@ -19,9 +19,9 @@ use types::{RecordKey, Shard, Time, Transaction};
 // The reading of a kind. Words that are missing count as 0, and a reading that takes no list leaves the lent one as it is. A kind is a number
 // and no enum, as in `changing`: any word is taken, and the order is that of script's table.
 #[tactic(auto, using(crate::proofs::Lent::beside_reading), unfolding(crate::specs::Reading::reading_of))]
-pub fn ask(ledger: Ledger, kind: u64, words: &[u64], lent: &mut [u64]) -> Result<u64, Refusal>
-    requires { Held ledger }
-    ensures { Reads (read (reading_of kind words.now (length lent.old)) (contents ledger)) lent.old lent.new result }
+pub fn ask(ledger: &Ledger, kind: u64, words: &[u64], lent: &mut [u64]) -> Result<u64, Refusal>
+    requires { Held ledger.now }
+    ensures { Reads (read (reading_of kind words.now (length lent.old)) (contents ledger.now)) lent.old lent.new result }
 {
     let a = word_at(words, 0);
     let b = word_at(words, 1);
@@ -40,9 +40,9 @@ pub fn ask(ledger: Ledger, kind: u64, words: &[u64], lent: &mut [u64]) -> Result
 
 // A lookup: a reading that is lent no list.
 #[tactic(auto, unfolding(crate::specs::Reading::lookup_of))]
-fn look_up(ledger: Ledger, kind: u64, words: &[u64]) -> Result<u64, Refusal>
-    requires { Held ledger }
-    ensures { Reads (read (lookup_of kind words.now) (contents ledger)) [] [] result }
+fn look_up(ledger: &Ledger, kind: u64, words: &[u64]) -> Result<u64, Refusal>
+    requires { Held ledger.now }
+    ensures { Reads (read (lookup_of kind words.now) (contents ledger.now)) [] [] result }
 {
     let a = word_at(words, 0);
     // A transaction stands first, or second behind a record's key.
@@ -80,17 +80,17 @@ fn question(words: &[u64]) -> Question
 }
 
 // Behind a question the clock.
-fn open_at(ledger: Ledger, words: &[u64]) -> Result<u64, Refusal>
-    requires { Held ledger }
-    ensures { Reads (read (question_open words.now) (contents ledger)) [] [] result }
+fn open_at(ledger: &Ledger, words: &[u64]) -> Result<u64, Refusal>
+    requires { Held ledger.now }
+    ensures { Reads (read (question_open words.now) (contents ledger.now)) [] [] result }
 {
     lookups::open_at(ledger, question(words), Time(word_at(words, 5)))
 }
 
 // Behind a question when the cell was read and what was found.
-fn answers(ledger: Ledger, words: &[u64]) -> Result<u64, Refusal>
-    requires { Held ledger }
-    ensures { Reads (read (question_answered words.now) (contents ledger)) [] [] result }
+fn answers(ledger: &Ledger, words: &[u64]) -> Result<u64, Refusal>
+    requires { Held ledger.now }
+    ensures { Reads (read (question_answered words.now) (contents ledger.now)) [] [] result }
 {
     let read_at = Time(word_at(words, 5));
     lookups::answers(ledger, question(words), read_at, word_at(words, 6))

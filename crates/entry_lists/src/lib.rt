@@ -92,14 +92,14 @@ fn write_questions(ledger: &Ledger, lent: &mut [u64]) -> usize
 }
 
 // Each core shard but local of each uncovered core entry, with its cell key.
-pub fn questions(ledger: Ledger, lent: &mut [u64]) -> Result<u64, Refusal>
-    requires { Held ledger }
-    ensures { Reads (read (ask_questions (length lent.old)) (contents ledger)) lent.old lent.new result }
+pub fn questions(ledger: &Ledger, lent: &mut [u64]) -> Result<u64, Refusal>
+    requires { Held ledger.now }
+    ensures { Reads (read (ask_questions (length lent.old)) (contents ledger.now)) lent.old lent.new result }
 {
-    if lent.len() < QUESTION_WORDS * count_questions(&ledger) {
+    if lent.len() < QUESTION_WORDS * count_questions(ledger) {
         return Err(Refusal::ListShort);
     }
-    Ok(write_questions(&ledger, lent) as u64)
+    Ok(write_questions(ledger, lent) as u64)
 }
 
 // Whether the entry is past its deadline and no settlement ends it.
@@ -139,9 +139,9 @@ fn gather<R: AsSlice<u64> + Copy, F: Fn(&Entry) -> Option<R>>(
 }
 
 // The entries past their deadline that no settlement ends.
-pub fn past_deadline(ledger: Ledger, time: Time, lent: &mut [u64]) -> Result<u64, Refusal>
-    requires { Held ledger }
-    ensures { Reads (read (list_past_deadline time.0 (length lent.old)) (contents ledger)) lent.old lent.new result }
+pub fn past_deadline(ledger: &Ledger, time: Time, lent: &mut [u64]) -> Result<u64, Refusal>
+    requires { Held ledger.now }
+    ensures { Reads (read (list_past_deadline time.0 (length lent.old)) (contents ledger.now)) lent.old lent.new result }
 {
     if !types::is_time(time.0) {
         return Err(Refusal::NoTime);
@@ -150,7 +150,7 @@ pub fn past_deadline(ledger: Ledger, time: Time, lent: &mut [u64]) -> Result<u64
         is_past(e, ledger.validity, time).then_some([e.at.0, e.end.0, e.anchor.0, e.charge])
     };
     let mut words = [0; TERMS_ROOM]; // with a count beside: there is no heap
-    let n = gather(&ledger, row_of, TERM_WORDS, &mut words);
+    let n = gather(ledger, row_of, TERM_WORDS, &mut words);
     list(&words[..TERM_WORDS * n], n, lent)
 }
 
@@ -162,12 +162,12 @@ fn issues_id(e: &Entry, local: Shard, id: u64) -> bool
 }
 
 // Those that issued this very id. An edge from local that has the id is in the index under the id's key, which is thus not asked.
-pub fn issuers_of(ledger: Ledger, id: u64, lent: &mut [u64]) -> Result<u64, Refusal>
-    requires { Held ledger }
-    ensures { Reads (read (list_issuers id (length lent.old)) (contents ledger)) lent.old lent.new result }
+pub fn issuers_of(ledger: &Ledger, id: u64, lent: &mut [u64]) -> Result<u64, Refusal>
+    requires { Held ledger.now }
+    ensures { Reads (read (list_issuers id (length lent.old)) (contents ledger.now)) lent.old lent.new result }
 {
     let row_of = |e: &Entry| issues_id(e, ledger.local, id).then_some([e.end.0]);
     let mut words = [0; ISSUERS_ROOM]; // with a count beside: there is no heap
-    let n = gather(&ledger, row_of, ISSUER_WORDS, &mut words);
+    let n = gather(ledger, row_of, ISSUER_WORDS, &mut words);
     list(&words[..ISSUER_WORDS * n], n, lent)
 }

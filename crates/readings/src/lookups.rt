@@ -49,64 +49,64 @@ fn look_up<F: Fn(&Entry) -> bool>(
 }
 
 // Whether the entry may be abandoned.
-pub fn abandonment_answers(ledger: Ledger, tx: Transaction) -> Result<u64, Refusal>
-    requires { Held ledger }
-    ensures { Reads (read (abandonment (number_of tx)) (contents ledger)) [] [] result }
+pub fn abandonment_answers(ledger: &Ledger, tx: Transaction) -> Result<u64, Refusal>
+    requires { Held ledger.now }
+    ensures { Reads (read (abandonment (number_of tx)) (contents ledger.now)) [] [] result }
 {
-    look_up(&ledger, tx, is_abandonable)
+    look_up(ledger, tx, is_abandonable)
 }
 
 // Whether a record names the entry or it has an absence.
-pub fn is_covered(ledger: Ledger, tx: Transaction) -> Result<u64, Refusal>
-    requires { Held ledger }
-    ensures { Reads (read (covered (number_of tx)) (contents ledger)) [] [] result }
+pub fn is_covered(ledger: &Ledger, tx: Transaction) -> Result<u64, Refusal>
+    requires { Held ledger.now }
+    ensures { Reads (read (covered (number_of tx)) (contents ledger.now)) [] [] result }
 {
-    look_up(&ledger, tx, |e| e.covered())
+    look_up(ledger, tx, |e| e.covered())
 }
 
 // Whether a record names the entry.
-pub fn departed(ledger: Ledger, tx: Transaction) -> Result<u64, Refusal>
-    requires { Held ledger }
-    ensures { Reads (read (departed (number_of tx)) (contents ledger)) [] [] result }
+pub fn departed(ledger: &Ledger, tx: Transaction) -> Result<u64, Refusal>
+    requires { Held ledger.now }
+    ensures { Reads (read (departed (number_of tx)) (contents ledger.now)) [] [] result }
 {
-    look_up(&ledger, tx, |e| e.departed_by.0 > 0)
+    look_up(ledger, tx, |e| e.departed_by.0 > 0)
 }
 
 // Whether the entry's certificate is by execution.
-pub fn executed(ledger: Ledger, tx: Transaction) -> Result<u64, Refusal>
-    requires { Held ledger }
-    ensures { Reads (read (executed (number_of tx)) (contents ledger)) [] [] result }
+pub fn executed(ledger: &Ledger, tx: Transaction) -> Result<u64, Refusal>
+    requires { Held ledger.now }
+    ensures { Reads (read (executed (number_of tx)) (contents ledger.now)) [] [] result }
 {
-    look_up(&ledger, tx, |e| e.certified == Certificate::ByExecution)
+    look_up(ledger, tx, |e| e.certified == Certificate::ByExecution)
 }
 
 // Whether local does not own some route of the entry.
-pub fn reaches_beyond(ledger: Ledger, tx: Transaction) -> Result<u64, Refusal>
-    requires { Held ledger }
-    ensures { Reads (read (reaches_beyond (number_of tx)) (contents ledger)) [] [] result }
+pub fn reaches_beyond(ledger: &Ledger, tx: Transaction) -> Result<u64, Refusal>
+    requires { Held ledger.now }
+    ensures { Reads (read (reaches_beyond (number_of tx)) (contents ledger.now)) [] [] result }
 {
-    look_up(&ledger, tx, |e| e.reaches_beyond(ledger.local))
+    look_up(ledger, tx, |e| e.reaches_beyond(ledger.local))
 }
 
 // Whether the index names the transaction under the record.
-pub fn issued_by(ledger: Ledger, r: RecordKey, tx: Transaction) -> Result<u64, Refusal>
-    requires { Held ledger }
-    ensures { Reads (read (issued_by r.0 (number_of tx)) (contents ledger)) [] [] result }
+pub fn issued_by(ledger: &Ledger, r: RecordKey, tx: Transaction) -> Result<u64, Refusal>
+    requires { Held ledger.now }
+    ensures { Reads (read (issued_by r.0 (number_of tx)) (contents ledger.now)) [] [] result }
 {
     Ok(u64::from(ledger.issuers.names(r, tx)))
 }
 
-pub fn local(ledger: Ledger) -> Result<u64, Refusal>
-    requires { Held ledger }
-    ensures { Reads (read local (contents ledger)) [] [] result }
+pub fn local(ledger: &Ledger) -> Result<u64, Refusal>
+    requires { Held ledger.now }
+    ensures { Reads (read local (contents ledger.now)) [] [] result }
 {
     Ok(ledger.local.0)
 }
 
 // The running count of rebuilt entries.
-pub fn rebuilt(ledger: Ledger) -> Result<u64, Refusal>
-    requires { Held ledger }
-    ensures { Reads (read rebuilt (contents ledger)) [] [] result }
+pub fn rebuilt(ledger: &Ledger) -> Result<u64, Refusal>
+    requires { Held ledger.now }
+    ensures { Reads (read rebuilt (contents ledger.now)) [] [] result }
 {
     Ok(ledger.rebuilt)
 }
@@ -133,9 +133,9 @@ impl Question {
 }
 
 // Whether a question is open: once its at has passed. It asks nothing of the ledger.
-pub fn open_at(ledger: Ledger, q: Question, time: Time) -> Result<u64, Refusal>
-    requires { Held ledger }
-    ensures { Reads (read (open_at (number_of q.tx) q.shard.0 q.key q.at.0 q.end.0 time.0) (contents ledger)) [] [] result }
+pub fn open_at(ledger: &Ledger, q: Question, time: Time) -> Result<u64, Refusal>
+    requires { Held ledger.now }
+    ensures { Reads (read (open_at (number_of q.tx) q.shard.0 q.key q.at.0 q.end.0 time.0) (contents ledger.now)) [] [] result }
 {
     q.check(time)?;
     Ok(u64::from(q.at <= time))
@@ -149,9 +149,9 @@ fn is_absent(at: Time, span: u64, read_at: Time, inclusion: u64) -> bool
 }
 
 // Whether what was read (0 absent, 1 present) answers the question: absent, in its own window, its transaction owed.
-pub fn answers(ledger: Ledger, q: Question, read_at: Time, inclusion: u64) -> Result<u64, Refusal>
-    requires { Held ledger }
-    ensures { Reads (read (answers (number_of q.tx) q.shard.0 q.key q.at.0 q.end.0 read_at.0 inclusion) (contents ledger)) [] [] result }
+pub fn answers(ledger: &Ledger, q: Question, read_at: Time, inclusion: u64) -> Result<u64, Refusal>
+    requires { Held ledger.now }
+    ensures { Reads (read (answers (number_of q.tx) q.shard.0 q.key q.at.0 q.end.0 read_at.0 inclusion) (contents ledger.now)) [] [] result }
 {
     if inclusion > 1 {
         return Err(Refusal::Malformed);

@@ -24,7 +24,7 @@ pub fn ask(
     let mut answer = Ok(0);
     for turn in 0..times.max(1) {
         list.fill(FILL);
-        answer = reading::ask(*ledger, kind, words, list);
+        answer = reading::ask(ledger, kind, words, list);
     }
     answer
 }

@@ -47,17 +47,17 @@ fn shards_of<F: Fn(&Departure) -> bool>(on_file: Departures, passes: F) -> Set
 }
 
 // The shards whose departures have no stamp.
-pub fn unstamped_departures(ledger: Ledger, lent: &mut [u64]) -> Result<u64, Refusal>
-    requires { Held ledger }
-    ensures { Reads (read (rules.list_unstamped (length lent.old)) (contents ledger)) lent.old lent.new result }
+pub fn unstamped_departures(ledger: &Ledger, lent: &mut [u64]) -> Result<u64, Refusal>
+    requires { Held ledger.now }
+    ensures { Reads (read (rules.list_unstamped (length lent.old)) (contents ledger.now)) lent.old lent.new result }
 {
     let shards = shards_of(ledger.departures, |d| d.until.is_none());
     shards.list(lent)
 }
 
-pub fn reach(ledger: Ledger, tx: Transaction, lent: &mut [u64]) -> Result<u64, Refusal>
-    requires { Held ledger }
-    ensures { Reads (read (rules.reach (number_of tx) (length lent.old)) (contents ledger)) lent.old lent.new result }
+pub fn reach(ledger: &Ledger, tx: Transaction, lent: &mut [u64]) -> Result<u64, Refusal>
+    requires { Held ledger.now }
+    ensures { Reads (read (rules.reach (number_of tx) (length lent.old)) (contents ledger.now)) lent.old lent.new result }
 {
     let Some(slot) = ledger.roster.slot_of(tx) else {
         return Ok(0);
@@ -85,13 +85,13 @@ fn destinations(e: Entry, local: Shard, r: RecordKey) -> Set
 }
 
 pub fn claimants(
-    ledger: Ledger,
+    ledger: &Ledger,
     tx: Transaction,
     r: RecordKey,
     lent: &mut [u64],
 ) -> Result<u64, Refusal>
-    requires { Held ledger }
-    ensures { Reads (read (rules.list_claimants (number_of tx) r.0 (length lent.old)) (contents ledger)) lent.old lent.new result }
+    requires { Held ledger.now }
+    ensures { Reads (read (rules.list_claimants (number_of tx) r.0 (length lent.old)) (contents ledger.now)) lent.old lent.new result }
 {
     let Some(slot) = ledger.roster.slot_of(tx) else {
         return Ok(0);
@@ -153,13 +153,13 @@ fn beyond(e: Entry, on_file: Departures, local: Shard, d: u32) -> Set
 
 #[tactic(auto, using(crate::proofs::Listed::too_deep))]
 pub fn counterparts(
-    ledger: Ledger,
+    ledger: &Ledger,
     tx: Transaction,
     depth: u64,
     lent: &mut [u64],
 ) -> Result<u64, Refusal>
-    requires { Held ledger }
-    ensures { Reads (read (rules.list_counterparts (number_of tx) depth (length lent.old)) (contents ledger)) lent.old lent.new result }
+    requires { Held ledger.now }
+    ensures { Reads (read (rules.list_counterparts (number_of tx) depth (length lent.old)) (contents ledger.now)) lent.old lent.new result }
 {
     if depth > 32 {
         return Err(Refusal::Malformed);

@@ -12,8 +12,8 @@ use Rattle.entry_lists.proofs.issuers_of.Goals as goal
 pub returns : goal.returns
 unfolding contents plain_entry
 returns c =
-    let a = c.args.ledger in
-    let l = contents c.args.ledger in
+    let a = c.args.ledger.now in
+    let l = contents c.args.ledger.now in
     let p = holds_id a.local.0 c.args.id in
     let run = c.gather-n.ensures.items p (λ (e : plain.Entry). e.terms.end ∷ []) (λ x. refl)
     (λ e r g s. picked (p (plain_entry e)) (e.end.0 ∷ []) r (search (rules, tests))) in

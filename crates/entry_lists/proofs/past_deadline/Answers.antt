@@ -12,8 +12,8 @@ use Rattle.entry_lists.proofs.past_deadline.Goals as goal
 pub returns : goal.returns
 unfolding contents past_deadline plain_entry
 returns c =
-    let a = c.args.ledger in
-    let l = contents c.args.ledger in
+    let a = c.args.ledger.now in
+    let l = contents c.args.ledger.now in
     let p = is_past a.validity c.args.time.0 in
     let run = c.gather-n.ensures.items p (λ (e : plain.Entry). e.terms.at ∷ e.terms.end ∷ e.terms.anchor ∷ e.terms.charge ∷ []) (λ x. refl)
     (λ e r g s. picked (p (plain_entry e)) (e.at.0 ∷ e.end.0 ∷ e.anchor.0 ∷ e.charge ∷ []) r (search (rules, tests))) in

@@ -19,13 +19,13 @@ returns-then-not-is_absent c =
 pub returns-in_default : goal.returns-in_default
 unfolding contents
 returns-in_default c =
-    let a = not_found c.args.ledger c.requires (number_of c.args.q.tx) (sym c.find.ensures ∙ c.in_default.is) in
+    let a = not_found c.args.ledger.now c.requires (number_of c.args.q.tx) (sym c.find.ensures ∙ c.in_default.is) in
     passes _ _ _ [] [] _ (goes_on _ _ _ (le-ltb _ _ c.if-inclusion-gt1.false) ∙ sym c.in_ok-check.ensures)
     (says false _ _ _ refl (follows _ _ _ (sym c.is_absent.ensures ∙ c.if-not-is_absent.false) (sym a.known)))
 
 pub returns : goal.returns
 unfolding contents
 returns c =
-    let a = found_at c.args.ledger c.requires (number_of c.args.q.tx) _ (sym c.find.ensures ∙ c.in-Some.is) in
+    let a = found_at c.args.ledger.now c.requires (number_of c.args.q.tx) _ (sym c.find.ensures ∙ c.in-Some.is) in
     passes _ _ _ [] [] _ (goes_on _ _ _ (le-ltb _ _ c.if-inclusion-gt1.false) ∙ sym c.in_ok-check.ensures)
     (says true _ _ _ refl (follows _ _ _ (sym c.is_absent.ensures ∙ c.if-not-is_absent.false) (sym a.known)))

@@ -8,4 +8,4 @@ use Rattle.readings.proofs.lookups.reaches_beyond.Goals as goal
 
 pub returns : goal.returns
 unfolding plain_entry contents
-returns c = c.look_up.ensures (λ e. filled (remote c.args.ledger.local.0 e.terms)) (λ e b k. search (rules, tests))
+returns c = c.look_up.ensures (λ e. filled (remote c.args.ledger.now.local.0 e.terms)) (λ e b k. search (rules, tests))
