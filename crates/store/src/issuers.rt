@@ -88,8 +88,8 @@ impl Issuers {
     }
 
     // Whether the transaction is named under the record.
-    pub fn names(self, r: RecordKey, t: Transaction) -> bool
-        ensures { result ≡ names (pairs_in self) r.0 (number_of t) }
+    pub fn names(&self, r: RecordKey, t: Transaction) -> bool
+        ensures { result ≡ names (pairs_in self.now) r.0 (number_of t) }
     {
         let k = self.rank(r, t);
         self.stands_at(k, r, t)
