@@ -63,6 +63,13 @@ lines_first true false c m n e = e
 lines_first true true false m n e = e
 lines_first true true true m n e = absurd (omega arith)
 
+-- what each kind answered: nothing yet, and with one kind more
+abbrev pub none_yet : ℕ → ℕ
+none_yet q = 0
+
+abbrev pub plus : (ℕ → ℕ) → ℕ → ℕ → ℕ → ℕ
+plus a k count q = a q + cond (eqb k q) count 0
+
 module _ (ws : List ℕ) where
   refused_by : (p : Plain) → (after_bundle ws p).refused ≡ bundle_refusal ws p
   unfolding after_bundle
@@ -79,7 +86,7 @@ module _ (ws : List ℕ) where
         done = tt;
       }
 
-  abbrev of_kind : ℕ → List Item
+  abbrev pub of_kind : ℕ → List Item
   of_kind k = keep (is_kind k) (items_written ws)
 
   -- from a kind on
@@ -93,7 +100,7 @@ module _ (ws : List ℕ) where
     pub state : through with_item (bundle_items ws) p ≡ through with_item rest (contents l)
     pub answered : (q : ℕ) → answered_by q (bundle_items ws) p ≡ a q + answered_by q rest (contents l)
 
-  pub begun : (l : Ledger) → Held l → Stage (from_kind 1 (from_kind 2 (from_kind 3 (from_kind 4 (from_kind 5 []))))) (contents l) l (λ q. 0)
+  pub begun : (l : Ledger) → Held l → Stage (from_kind 1 (from_kind 2 (from_kind 3 (from_kind 4 (from_kind 5 []))))) (contents l) l none_yet
   unfolding bundle_items
   begun l h = record { held = h; refusal = refl; state = refl; answered = λ q. omega arith }
 
@@ -104,7 +111,7 @@ module _ (ws : List ℕ) where
 
     module _ (k : ℕ) (rest : List Item) (l : Ledger) (a : ℕ → ℕ) (v : Stage (from_kind k rest) p l a) (m : Ledger) where
       -- a kind is done
-      pub kind_done : (count : ℕ) → Did k (of_kind k) (contents l) (Ok count) m → Stage rest p m (λ q. a q + cond (eqb k q) count 0)
+      pub kind_done : (count : ℕ) → Did k (of_kind k) (contents l) (Ok count) m → Stage rest p m (plus a k count)
       kind_done count d =
           let is = of_kind k in
           let now = contents l in
