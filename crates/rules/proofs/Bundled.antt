@@ -12,7 +12,7 @@ use Rattle.rules.specs.Outcome.{if_done}
 use Rattle.rules.specs.Calls.{step, run, after_item, with_item, items_refusal, answered_by, bundle_refusal, after_bundle, item_call}
 use Rattle.rules.specs.Reached.{Accepted, FirstRefused, calls_answer, AsItems}
 use Rattle.rules.proofs.Items.{item-step, item-ledger}
-use Rattle.rules.proofs.Kept.{unless-refused, unless-none, tested}
+use Rattle.rules.proofs.Kept.{unless-refused, unless-none, unless_some, tested}
 
 -- items of a list
 items-run : (is : List Item) (p : Plain) → through with_item is p ≡ run (map item_call is) p
@@ -67,3 +67,8 @@ as_items ws p h =
       left = ap (λ o. o.ledger) (unless-none (bundle_refusal ws p) p _ e) ∙ items-run is p;
       answers = ap (λ o. o.answers) (unless-none (bundle_refusal ws p) p _ e) ∙ ap₂ ◌∷◌ (items-answer 4 is p) (ap₂ (λ m n. m ∷ n ∷ []) (items-answer 2 is p) (items-answer 3 is p));
     }
+
+-- a refused one does nothing
+pub refused_stays : (n : ℕ) (ws : List ℕ) (p : Plain) → (after_bundle ws p).refused ≡ suc n → (after_bundle ws p).ledger ≡ p
+unfolding after_bundle
+refused_stays n ws p h = unless_some (bundle_refusal ws p) n p _ (sym (unless-refused (bundle_refusal ws p) p _ refl) ∙ h)
