@@ -115,14 +115,17 @@ pub rebuilding : (l : Ledger) (ws : List ℕ) (start : ℕ) → Held l → recor
 rebuilding l ws start h f e = record { reach = rw e (reach_start ws f); doing = nothing-done _ _ (record_groups ws) l h }
 
 -- no group rebuilds more than one
+pub one_rebuilt : (g : Terms) (es : List plain.Entry) → rebuilt_of g es ≤ 1
+one_rebuilt g es = go (has transaction_of g.transaction es)
+  where
+    go : (b : Bool) → cond b 0 1 ≤ 1
+    go true = omega arith
+    go false = omega arith
+
 pub rebuilt-few : (l₀ : Ledger) (ws : List ℕ) (l : Ledger) (start n i : ℕ) → record_formed ws ≡ true → Rebuilding l₀ ws l start n i → n ≤ group_count ws
 rebuilt-few l₀ ws l start n i f v =
-    let few = counted-few _ (of_entries (λ h. rebuilt_of)) (record_groups ws) (contents l₀) (λ x p. at_most_one (has transaction_of x.transaction p.entries)) (contents l) n i v.doing.rest in
+    let few = counted-few _ (of_entries (λ h. rebuilt_of)) (record_groups ws) (contents l₀) (λ g p. one_rebuilt g p.entries) (contents l) n i v.doing.rest in
     omega (arith, few, groups_length ws f)
-  where
-    at_most_one : (b : Bool) → cond b 0 1 ≤ 1
-    at_most_one true = omega arith
-    at_most_one false = omega arith
 
 -- what is left to do makes of the ledger in hand what all groups make of the first
 left_to_do : (l₀ : Ledger) (ws : List ℕ) (l : Ledger) (start n i : ℕ) → Rebuilding l₀ ws l start n i →

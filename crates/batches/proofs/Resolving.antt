@@ -62,15 +62,18 @@ resolved l₀ ws l released i f v h =
     (rw (sym n) (answers released l _ _ (record { held = v.held; holds = d.0.holds ∙ through-entries (λ h. with_line h ds) ls p }) refl))
 
 -- no line releases more than one
+pub one_released : (local : ℕ) (ds : List ℕ) (l : Line) (es : List plain.Entry) → released_of local ds l es ≤ 1
+one_released local ds l es = go (ruling_in local ds l es)
+  where
+    go : (r : Ruling) → is_release r ≤ 1
+    go skip = omega arith
+    go resolve = omega arith
+    go release = omega arith
+
 pub released_few : (l₀ : Ledger) (ws : List ℕ) (l : Ledger) (released i : ℕ) → finalization_formed ws ≡ true → Resolving l₀ ws l released i → released ≤ line_count ws
 released_few l₀ ws l released i f v =
-    let few = counted-few _ (of_entries (λ h. released_of h (deciding ws))) (finalization_lines ws) (contents l₀) (λ x p. at_most_one (ruling_in p.local (deciding ws) x p.entries)) (contents l) released i v.rest in
+    let few = counted-few _ (of_entries (λ h. released_of h (deciding ws))) (finalization_lines ws) (contents l₀) (λ l p. one_released p.local (deciding ws) l p.entries) (contents l) released i v.rest in
     omega (arith, few, lines_length ws f)
-  where
-    at_most_one : (r : Ruling) → is_release r ≤ 1
-    at_most_one skip = omega arith
-    at_most_one resolve = omega arith
-    at_most_one release = omega arith
 
 -- words that are not well formed are turned away
 pub turned_away : (l : Ledger) (ws : List ℕ) → Held l → finalization_formed ws ≡ false → Meets (after_finalization ws (contents l)) [] [] (says_no Malformed l)

@@ -2,21 +2,23 @@
 -- Assumes nothing.
 use Prim.Native.Nat.{ℕ, zero, suc, ◌+◌, ◌≤◌}
 use mathlib.Core.Path.{◌≡◌, refl}
-use mathlib.Core.Bool.{Bool, true, false, cond, not}
+use mathlib.Core.Bool.{Bool, true, false, not}
 use mathlib.Core.List.{List, [], ◌∷◌}
 use native.Mathlib.Omega.{arith}
 use lib.ListN.{get_or}
-use Rattle.lists.specs.Lists.{total, self, has}
+use Rattle.lists.specs.Lists.{total, self}
 use Rattle.lists.proofs.Items.{tally-few}
-use Rattle.rules.specs.Plain.{Plain, Absence, transaction_of, owed, entry_of}
+use Rattle.rules.specs.Plain.{Plain, Absence, owed, entry_of}
 use Rattle.rules.specs.Words.{Item, admission_terms, record_shard, record_groups, record_formed, finalization_lines, deciding, finalization_formed}
-use Rattle.rules.specs.Entries.{rebuilt_by, rebuilt_of, with_group, released_by, released_of, with_line, Ruling, skip, resolve, release, is_release, ruling_in}
+use Rattle.rules.specs.Entries.{rebuilt_by, rebuilt_of, with_group, released_by, released_of, with_line}
 use Rattle.rules.specs.Outcome.{Outcome, done, unless, yes_no}
 use Rattle.rules.specs.Calls.{admission_refusal, is_new, absence_refusal, abandonment_refusal, finalization_refusal, terminal_refusal, after_admission, after_absence, after_abandonment, after_finalization, after_terminal, after_item}
 use Rattle.rules.proofs.Kept.{tested}
 use Rattle.rules.proofs.Items.{by_item}
 use Rattle.words.proofs.Groups.{recorded, groups_length}
 use Rattle.words.proofs.Lines.{finalized, lines_length}
+use Rattle.batches.proofs.Rebuilding.{one_rebuilt}
+use Rattle.batches.proofs.Resolving.{one_released}
 
 pub record Few (o : Outcome) : Type 0 where
   pub single : total self o.answers ≡ get_or o.answers 0 0
@@ -44,12 +46,8 @@ rebuilt-few ws p e =
       arith,
       recorded ws f,
       groups_length ws f,
-      tally-few (with_group (record_shard ws)) rebuilt_of (record_groups ws) p.entries (λ g es. at_most_one (has transaction_of g.transaction es)) (record_groups ws) p.entries,
+      tally-few (with_group (record_shard ws)) rebuilt_of (record_groups ws) p.entries one_rebuilt (record_groups ws) p.entries,
     )
-  where
-    at_most_one : (b : Bool) → cond b 0 1 ≤ 1
-    at_most_one true = omega arith
-    at_most_one false = omega arith
 
 released-few : (ws : List ℕ) (p : Plain) → finalization_refusal ws ≡ 0 → released_by p.local (deciding ws) (finalization_lines ws) p.entries ≤ 48
 released-few ws p e =
@@ -58,13 +56,8 @@ released-few ws p e =
       arith,
       finalized ws f,
       lines_length ws f,
-      tally-few (with_line p.local (deciding ws)) (released_of p.local (deciding ws)) (finalization_lines ws) p.entries (λ l es. at_most_one (ruling_in p.local (deciding ws) l es)) (finalization_lines ws) p.entries,
+      tally-few (with_line p.local (deciding ws)) (released_of p.local (deciding ws)) (finalization_lines ws) p.entries (one_released p.local (deciding ws)) (finalization_lines ws) p.entries,
     )
-  where
-    at_most_one : (r : Ruling) → is_release r ≤ 1
-    at_most_one skip = omega arith
-    at_most_one resolve = omega arith
-    at_most_one release = omega arith
 
 -- call by call
 terminal-few : (shard cut is_stamped until : ℕ) (p : Plain) → Few (after_terminal shard cut is_stamped until p)

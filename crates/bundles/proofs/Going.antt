@@ -20,8 +20,9 @@ use Rattle.words.specs.Bundle.{form_refusal, item_of}
 use Rattle.words.proofs.Bundles.{item_at, items-many, items_start, item_next, item_within, item_at_lem}
 use Rattle.ledger.specs.declared.Ledger.{Ledger}
 use Rattle.ledger.specs.Contents.{contents, Held}
+use Rattle.ledger.specs.Meets.{Meets, saying, says_no}
 use Rattle.ledger.proofs.Meeting.{numbered}
-use Rattle.bundles.specs.Doing.{MeetsIn, Did}
+use Rattle.bundles.specs.Doing.{Did}
 use Rattle.bundles.proofs.Answering.{item-few}
 
 -- those of the kind from the i-th item on
@@ -89,7 +90,7 @@ module _ (kind : ℕ) (ws : List ℕ) (f : form_refusal ws ≡ 0) where
       next : coming kind ws i ≡ here ∷ coming kind ws (i + 1)
       next = split true is_own
 
-      pub turned_away : (r : Refusal) (m : Ledger) → MeetsIn (after_item (item_of kind own) (contents l)) (Err r) m → Did kind (coming kind ws 0) p (Err r) m
+      pub turned_away : (r : Refusal) (m : Ledger) → Meets (after_item (item_of kind own) (contents l)) [] [] (says_no r m) → Did kind (coming kind ws 0) p (Err r) m
       turned_away r m w =
           let n = numbered r in
           let o : (after_item here (contents l)).refused ≡ refusal_number r = ap (λ x. (after_item x (contents l)).refused) (sym q) ∙ sym w.refused in
@@ -98,7 +99,7 @@ module _ (kind : ℕ) (ws : List ℕ) (f : form_refusal ws ≡ 0) where
           ∙ ap (λ k. if_done k (items_refusal (coming kind ws (i + 1)) (with_item here (contents l))) k) (o ∙ n.1) ∙ sym n.1 in
           record { refused = sym all ∙ v.refusal; done = tt }
 
-      module _ (ns : List ℕ) (m : Ledger) (w : MeetsIn (after_item (item_of kind own) (contents l)) (Ok ns) m) where
+      module _ (ns : List ℕ) (m : Ledger) (w : Meets (after_item (item_of kind own) (contents l)) [] [] (saying (Ok ns) m)) where
         abbrev o : Outcome
         o = after_item here (contents l)
 

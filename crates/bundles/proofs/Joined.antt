@@ -2,7 +2,7 @@
 -- Assumes nothing.
 use Prim.Native.Nat.{ℕ, zero, suc, ◌+◌}
 use mathlib.Core.Path.{◌≡◌, refl, sym, ap, ◌∙◌}
-use mathlib.Core.Bool.{Bool, true, false, cond, not}
+use mathlib.Core.Bool.{Bool, true, false, cond}
 use mathlib.Core.List.{List, [], ◌∷◌, ◌++◌}
 use native.Mathlib.Omega.{arith}
 use lib.Dec.{eqb}
@@ -12,7 +12,7 @@ use Rattle.lists.specs.Lists.{cons_if, keep, through, total, self}
 use Rattle.lists.proofs.Items.{through-append, tally-append}
 use Rattle.rules.specs.Plain.{Plain}
 use Rattle.rules.specs.Words.{Item, is_kind, items_written, bundle_whole, bundle_known, bundle_measured, bundle_items}
-use Rattle.rules.specs.Outcome.{if_done, done, ◌gives◌then◌}
+use Rattle.rules.specs.Outcome.{if_done, done}
 use Rattle.rules.specs.Calls.{after_item, with_item, items_refusal, answered_by, bundle_refusal, after_bundle}
 use Rattle.rules.proofs.Kept.{unless-refused}
 use Rattle.types.specs.declared.refusal.Refusal.{Refusal}
@@ -21,7 +21,7 @@ use Rattle.words.specs.Bundle.{form_refusal}
 use Rattle.ledger.specs.declared.Ledger.{Ledger}
 use Rattle.ledger.specs.Contents.{contents, Held}
 use Rattle.ledger.specs.Meets.{Meets, says_no}
-use Rattle.ledger.proofs.Meeting.{numbered, refuses, passes}
+use Rattle.ledger.proofs.Meeting.{lines_first, lines_pass, numbered, refuses, passes}
 use Rattle.bundles.specs.Doing.{Did, AllItems}
 
 -- two lists of items, one after the other
@@ -47,22 +47,6 @@ others k q h (i ∷ is) p = go (is_kind k i) refl (others k q h is (with_item i 
     go true e done same = omega (arith, here e, done)
     go false e done same = same
 
--- The words decide first, the items where they are well formed.
-abbrev lines : Bool → Bool → Bool → ℕ → ℕ
-lines a b c m = not a gives 11 then not b gives 10 then not c gives 11 then m
-
-lines_pass : (a b c : Bool) (m : ℕ) → lines a b c 0 ≡ 0 → lines a b c m ≡ m
-lines_pass false b c m e = absurd (omega arith)
-lines_pass true false c m e = absurd (omega arith)
-lines_pass true true false m e = absurd (omega arith)
-lines_pass true true true m e = refl
-
-lines_first : (a b c : Bool) (m n : ℕ) → lines a b c 0 ≡ suc n → lines a b c m ≡ suc n
-lines_first false b c m n e = e
-lines_first true false c m n e = e
-lines_first true true false m n e = e
-lines_first true true true m n e = absurd (omega arith)
-
 -- what each kind answered: nothing yet, and with one kind more
 abbrev pub none_yet : ℕ → ℕ
 none_yet q = 0
@@ -81,7 +65,7 @@ module _ (ws : List ℕ) where
       let n = numbered r in
       record {
         refused =
-            n.1 ∙ sym (lines_first (bundle_whole ws) (bundle_known ws) (bundle_measured ws) (items_refusal (bundle_items ws) p) n.0 (sym e ∙ n.1))
+            n.1 ∙ sym (lines_first 10 9 10 (bundle_whole ws) (bundle_known ws) (bundle_measured ws) (items_refusal (bundle_items ws) p) n.0 (sym e ∙ n.1))
             ∙ sym (refused_by p);
         done = tt;
       }
@@ -107,7 +91,7 @@ module _ (ws : List ℕ) where
   module _ (f : form_refusal ws ≡ 0) (p : Plain) where
     by_items : bundle_refusal ws p ≡ items_refusal (bundle_items ws) p
     unfolding form_refusal
-    by_items = lines_pass (bundle_whole ws) (bundle_known ws) (bundle_measured ws) (items_refusal (bundle_items ws) p) f
+    by_items = lines_pass 10 9 10 (bundle_whole ws) (bundle_known ws) (bundle_measured ws) (items_refusal (bundle_items ws) p) f
 
     module _ (k : ℕ) (rest : List Item) (l : Ledger) (a : ℕ → ℕ) (v : Stage (from_kind k rest) p l a) (m : Ledger) where
       -- a kind is done

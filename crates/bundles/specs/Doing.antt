@@ -2,7 +2,6 @@
 use Rattle.std.specs.Prelude.{ℕ, ◌≡◌, List, [], Result, IfOk}
 use Rattle.rules.specs.Plain.{Plain}
 use Rattle.rules.specs.Words.{Item}
-use Rattle.rules.specs.Outcome.{Outcome}
 use Rattle.rules.specs.Calls.{with_item, items_refusal, answered_by, after_bundle}
 use Rattle.types.specs.declared.refusal.Refusal.{Refusal}
 use Rattle.types.specs.Refusals.{refused_in}
@@ -10,10 +9,6 @@ use Rattle.lists.specs.Lists.{through}
 use Rattle.ledger.specs.declared.Ledger.{Ledger}
 use Rattle.ledger.specs.Contents.{contents, Held}
 use Rattle.ledger.specs.Meets.{Meets, saying}
-
--- an outcome is met in a ledger that is lent no list
-abbrev pub MeetsIn : Outcome → Result (List ℕ) Refusal → Ledger → Type 0
-MeetsIn o said l = Meets o [] [] (saying said l)
 
 -- none was refused: what they answered in all, and the ledger after the last
 pub record AllDone (kind : ℕ) (is : List Item) (p : Plain) (l : Ledger) (count : ℕ) : Type 0 where
@@ -29,4 +24,4 @@ pub record Did (kind : ℕ) (is : List Item) (p : Plain) (said : Result ℕ Refu
 -- the same of all items of a bundle, which may be refused for its words: an outcome is met, but for the ledger after a refusal
 pub record AllItems (ws : List ℕ) (p : Plain) (said : Result (List ℕ) Refusal) (l : Ledger) : Type 0 where
   pub refused : refused_in said ≡ (after_bundle ws p).refused
-  pub done : IfOk said (λ ns. MeetsIn (after_bundle ws p) said l)
+  pub done : IfOk said (λ ns. Meets (after_bundle ws p) [] [] (saying said l))

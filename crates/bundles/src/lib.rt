@@ -8,7 +8,7 @@ ghost use Rattle.rules.specs.Words.{is_kind, items_written};
 ghost use Rattle.rules.specs.Calls.{terminal_item, absence_item, after_item, after_bundle};
 ghost use Rattle.ledger.specs.Contents.{Held, contents};
 ghost use Rattle.ledger.specs.Meets.{Meets, saying};
-ghost use Rattle.bundles.specs.Doing.{MeetsIn, Did, AllItems};
+ghost use Rattle.bundles.specs.Doing.{Did, AllItems};
 ghost use Rattle.words.specs.Bundle.{item_of};
 
 use batches::abandonment::record_abandonment;
@@ -25,7 +25,7 @@ use words::bundle::Bundle;
 // An item that is a terminal: the four words of the call.
 fn terminal_item(ledger: &mut Ledger, words: &[u64]) -> Said
     requires { Held ledger.old }
-    ensures { MeetsIn (terminal_item words.now (contents ledger.old)) result ledger.new }
+    ensures { Meets (terminal_item words.now (contents ledger.old)) [] [] (saying result ledger.new) }
 {
     if words.len() != 4 {
         return Err(Refusal::Malformed);
@@ -39,7 +39,7 @@ fn terminal_item(ledger: &mut Ledger, words: &[u64]) -> Said
 // An item that is an absence: transaction, shard and key.
 fn absence_item(ledger: &mut Ledger, words: &[u64]) -> Said
     requires { Held ledger.old }
-    ensures { MeetsIn (absence_item words.now (contents ledger.old)) result ledger.new }
+    ensures { Meets (absence_item words.now (contents ledger.old)) [] [] (saying result ledger.new) }
 {
     if words.len() != 3 {
         return Err(Refusal::Malformed);
@@ -51,7 +51,7 @@ fn absence_item(ledger: &mut Ledger, words: &[u64]) -> Said
 // An item of a kind; 5 and every other kind is an absence.
 fn item(ledger: &mut Ledger, kind: u64, words: &[u64]) -> Said
     requires { Held ledger.old }
-    ensures { MeetsIn (after_item (item_of kind words.now) (contents ledger.old)) result ledger.new }
+    ensures { Meets (after_item (item_of kind words.now) (contents ledger.old)) [] [] (saying result ledger.new) }
 {
     match kind {
         1 => terminal_item(ledger, words),

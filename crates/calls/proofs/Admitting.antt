@@ -1,7 +1,7 @@
 -- Admission: what each line of its table and each branch after it gives, from what the parts did.
 -- Assumes nothing.
 use Rattle.std.specs.Prelude.{Some, None}
-use Prim.Native.Nat.{ℕ, suc, ◌-◌, ◌≤◌, ◌<◌}
+use Prim.Native.Nat.{ℕ, ◌-◌, ◌≤◌, ◌<◌}
 use mathlib.Core.Path.{◌≡◌, refl, sym, ap, ◌∙◌}
 use mathlib.Core.Bool.{Bool, true, false, not}
 use mathlib.Core.List.{List, [], ◌∷◌}
@@ -40,26 +40,11 @@ use Rattle.ledger.specs.Contents.{contents, Held, with_parts}
 use Rattle.ledger.specs.Meets.{Meets, says, says_no}
 use Rattle.ledger.proofs.Places.{entries-length, found_at, not_found}
 use Rattle.ledger.proofs.Lift.{taken_in}
-use Rattle.ledger.proofs.Meeting.{numbered, refuses, passes, answers, good-after}
+use Rattle.ledger.proofs.Meeting.{lines, lines_first, lines_pass, numbered, refuses, passes, answers, good-after}
 use Rattle.calls.specs.Naming.{Nameable, with_pairs}
 use Rattle.calls.specs.Refusals.{words_refusal}
 
-abbrev lines : Bool → Bool → Bool → ℕ → ℕ
-lines a b c m = not a gives 5 then not b gives 3 then not c gives 4 then m
-
-lines_first : (a b c : Bool) (m n : ℕ) → lines a b c 0 ≡ suc n → lines a b c m ≡ suc n
-lines_first false b c m n e = e
-lines_first true false c m n e = e
-lines_first true true false m n e = e
-lines_first true true true m n e = absurd (omega arith)
-
-lines_pass : (a b c : Bool) (m : ℕ) → lines a b c 0 ≡ 0 → lines a b c m ≡ m
-lines_pass false b c m e = absurd (omega arith)
-lines_pass true false c m e = absurd (omega arith)
-lines_pass true true false m e = absurd (omega arith)
-lines_pass true true true m e = refl
-
-lines_none : (a b c : Bool) (m : ℕ) → lines a b c m ≡ 0 → (a ≡ true) × (m ≡ 0)
+lines_none : (a b c : Bool) (m : ℕ) → lines 4 2 3 a b c m ≡ 0 → (a ≡ true) × (m ≡ 0)
 lines_none false b c m e = absurd (omega arith)
 lines_none true false c m e = absurd (omega arith)
 lines_none true true false m e = absurd (omega arith)
@@ -94,7 +79,7 @@ module _ (l : Ledger) (h : Held l) (ws : List ℕ) where
   unfolding after_admission
   turned_away r e =
       let n = numbered r in
-      refuses r l [] (admission_refusal ws (contents l)) _ h (lines_first (admission_formed ws) (admission_timed ws) (admission_placed ws) _ n.0 (sym e ∙ n.1) ∙ sym n.1)
+      refuses r l [] (admission_refusal ws (contents l)) _ h (lines_first 4 2 3 (admission_formed ws) (admission_timed ws) (admission_placed ws) _ n.0 (sym e ∙ n.1) ∙ sym n.1)
 
   -- where the words are allowed, the room decides
   module _ (z : 0 ≡ words_refusal ws) where
@@ -103,7 +88,7 @@ module _ (l : Ledger) (h : Held l) (ws : List ℕ) where
 
     last_line : (b : Bool) → no_room_for (t ∷ []) (contents l) ≡ b → admission_refusal ws (contents l) ≡ (b gives 6 then 0)
     last_line b e =
-        lines_pass (admission_formed ws) (admission_timed ws) (admission_placed ws) (no_room_for (t ∷ []) (contents l) gives 6 then 0) (sym z)
+        lines_pass 4 2 3 (admission_formed ws) (admission_timed ws) (admission_placed ws) (no_room_for (t ∷ []) (contents l) gives 6 then 0) (sym z)
         ∙ ap (λ c. c gives 6 then 0) e
 
     -- owed already

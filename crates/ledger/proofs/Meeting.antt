@@ -2,10 +2,12 @@
 -- Assumes nothing.
 use Prim.Native.Nat.{ℕ, suc}
 use mathlib.Core.Path.{◌≡◌, refl, ◌∙◌}
+use mathlib.Core.Bool.{Bool, true, false, not}
 use mathlib.Core.List.{List, [], ◌∷◌}
+use native.Mathlib.Omega.{arith}
 use Rattle.rules.specs.Plain.{Plain}
 use Rattle.rules.specs.Good.{Good}
-use Rattle.rules.specs.Outcome.{Outcome, done, unless}
+use Rattle.rules.specs.Outcome.{Outcome, done, unless, ◌gives◌then◌}
 use Rattle.std.specs.Prelude.{Ok}
 use Rattle.types.specs.declared.refusal.Refusal.{Refusal}
 use Rattle.types.specs.declared.refusal.Refusal.TheVariants.{NoLocal, NoSpan, NoTime, NoShard, Malformed, EntriesFull, AbsencesFull, DeparturesFull, ListShort, UnknownKind, NoBundle}
@@ -56,3 +58,20 @@ stays l h p e = record { held = h; holds = e }
 -- a call that goes through leaves a good ledger
 pub good-after : (m : ℕ) (p : Plain) (o : Outcome) → m ≡ 0 → Good (unless m p o).ledger → Good o.ledger
 good-after m p o e g = rw e at g
+
+-- A table whose first three lines the words decide: what these give is given, and where they give nothing the rest is.
+module _ (x y z : ℕ) where
+  abbrev pub lines : Bool → Bool → Bool → ℕ → ℕ
+  lines a b c m = not a gives suc x then not b gives suc y then not c gives suc z then m
+
+  pub lines_first : (a b c : Bool) (m n : ℕ) → lines a b c 0 ≡ suc n → lines a b c m ≡ suc n
+  lines_first false b c m n e = e
+  lines_first true false c m n e = e
+  lines_first true true false m n e = e
+  lines_first true true true m n e = absurd (omega arith)
+
+  pub lines_pass : (a b c : Bool) (m : ℕ) → lines a b c 0 ≡ 0 → lines a b c m ≡ m
+  lines_pass false b c m e = absurd (omega arith)
+  lines_pass true false c m e = absurd (omega arith)
+  lines_pass true true false m e = absurd (omega arith)
+  lines_pass true true true m e = refl
