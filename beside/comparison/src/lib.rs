@@ -17,4 +17,5 @@ pub mod random;
 pub mod scripts;
 pub mod series;
 pub mod shorten;
+pub mod sides;
 pub mod stretches;

@@ -4,6 +4,8 @@ use std::fmt;
 
 use reference::{Book, ENTRIES, FILLER, Given, Remote, Reply, Standing, call_named};
 
+use crate::sides::{Apart, Sides};
+
 const LEG: u64 = 1;
 const CORE: u64 = 2;
 const REMAINDER: u64 = 3;
@@ -41,11 +43,19 @@ pub struct Judged {
 }
 
 #[derive(Default)]
-pub struct Prunes([Judged; RULES.len()]);
+pub struct Prunes {
+    judged: [Judged; RULES.len()],
+    sides: Sides,
+}
 
 impl Prunes {
     pub fn by(&self, rule: Rule) -> Judged {
-        self.0[rule as usize]
+        self.judged[rule as usize]
+    }
+
+    /// Of those, the ones whose at and end lay on different sides of the clock.
+    pub fn apart(&self, rule: Rule) -> Apart {
+        self.sides.by(rule)
     }
 
     /// Count a prune at `now` that was accepted.
@@ -53,10 +63,13 @@ impl Prunes {
         let earlier = now.checked_sub(1).and_then(|now| pruned(before, now));
         let later = pruned(before, now + 1);
         let mut fallen = Vec::new();
-        for (transaction, entry) in before.tally().owed {
-            let rule = first_that_fits(&entry);
-            let judged = &mut self.0[rule as usize];
-            if after.owes(transaction) {
+        let tally = before.tally();
+        for (&transaction, entry) in &tally.owed {
+            let rule = first_that_fits(entry);
+            let judged = &mut self.judged[rule as usize];
+            let stands = after.owes(transaction);
+            self.sides.count(now, rule, entry, &tally, stands);
+            if stands {
                 let goes = later.as_ref().is_some_and(|book| !book.owes(transaction));
                 judged.stood += 1;
                 judged.stood_last += u64::from(goes);
@@ -129,6 +142,6 @@ impl fmt::Display for Prunes {
                 "\n{name:<38} {stood:>8}  {stood_last:>19}  {fell:>8}  {fell_first:>14}"
             )?;
         }
-        Ok(())
+        write!(f, "\n{}", self.sides)
     }
 }

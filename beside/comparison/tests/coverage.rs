@@ -71,6 +71,42 @@ fn every_rule_stands_and_falls_to_its_edge() {
     }
 }
 
+/// Rule 2 reads end, rule 5 at, and rule 4 neither: nobody falls by rule 2 whose end is to come, nor by rule 5 whose at is.
+#[test]
+fn at_and_end_lie_on_different_sides_of_the_clock() {
+    let coverage = covered(&Names::all(), 6000);
+    let come_up = |counts: &[u64]| counts.iter().all(|count| *count > 20);
+    for rule in [Rule::Leg, Rule::Absent] {
+        let apart = coverage.apart(rule);
+        let [at, end, other] = [apart.at_alone, apart.end_alone, apart.otherwise];
+        assert_eq!(at.fell, 0, "{coverage}");
+        assert!(
+            come_up(&[at.stood, end.stood, end.fell, other.stood, other.fell]),
+            "{coverage}"
+        );
+    }
+    let [open, departed] = [Rule::Open, Rule::Departed].map(|rule| coverage.apart(rule));
+    assert_eq!(
+        (open.at_alone.fell, open.end_alone.fell),
+        (0, 0),
+        "{coverage}"
+    );
+    assert!(
+        come_up(&[open.at_alone.stood, open.end_alone.stood]),
+        "{coverage}"
+    );
+    for went in [departed.at_alone, departed.end_alone] {
+        assert!(come_up(&[went.stood, went.fell]), "{coverage}");
+    }
+    let apart = coverage.apart(Rule::Deadline);
+    let [at, end, other] = [apart.at_alone, apart.end_alone, apart.otherwise];
+    assert_eq!(end.fell, 0, "{coverage}");
+    assert!(
+        come_up(&[at.stood, at.fell, end.stood, other.stood, other.fell]),
+        "{coverage}"
+    );
+}
+
 #[test]
 fn bundles_come_to_every_edge() {
     let coverage = covered(&Names::all(), 2000);

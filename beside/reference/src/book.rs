@@ -20,10 +20,15 @@ pub struct Tally {
     pub pairs: Vec<(u64, u64)>,
     /// The shards of the departures on file.
     pub departures: BTreeSet<u64>,
+    /// The spans of rules 2 and 5: L and V.
+    pub leg_entry: u64,
+    pub validity: u64,
 }
 
-/// What the rules of prune ask of an entry before any clock.
+/// What the rules of prune ask of an entry.
 pub struct Standing {
+    pub at: u64,
+    pub end: u64,
     pub part: u64,
     pub certificate: u64,
     pub absences: usize,
@@ -107,6 +112,8 @@ impl Book {
             owed: inside::owed(&self.ledger),
             pairs: inside::pairs(&self.ledger),
             departures: inside::departed(&self.ledger),
+            leg_entry: self.spans.leg_entry,
+            validity: self.spans.validity,
         }
     }
 

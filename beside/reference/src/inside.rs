@@ -44,7 +44,9 @@ pub fn reach(ledger: &Ledger, tx_hash: TxHash) -> &[RoutePrefix] {
 }
 
 pub fn owed(ledger: &Ledger) -> BTreeMap<u64, Standing> {
-    let standing = |owed| Standing {
+    let standing = |owed: &Owed| Standing {
+        at: owed.figures.deadline.at().0,
+        end: owed.figures.deadline.validity_end().0,
         part: part(owed),
         certificate: certificate(owed),
         absences: owed.absences.len(),

@@ -62,7 +62,7 @@ pub fn judge(
         return Verdict::Stands; // rule 1
     }
     if by_window {
-        return unless(time.is_before(e.at, leg_span), Verdict::Falls);
+        return unless(time.is_before(e.end, leg_span), Verdict::Falls);
     }
     if named {
         return unless(view.has_readable(departed_by), Verdict::Reported(1));

@@ -44,15 +44,26 @@ abbrev leg_issuing : ℕ → ℕ → Call
 leg_issuing id id' =
     admission (0 ∷ 1 ∷ 2 ∷ 9 ∷ 1000 ∷ 2000 ∷ 10 ∷ 77 ∷ 1 ∷ 5 ∷ id ∷ id' ∷ 4 ∷ 4 ∷ 0 ∷ 0 ∷ 1 ∷ 0 ∷ 5 ∷ [])
 
-abbrev leg_alone : Call
-leg_alone = admission (0 ∷ 1 ∷ 0 ∷ 9 ∷ 1000 ∷ 2000 ∷ 10 ∷ 77 ∷ 1 ∷ 5 ∷ [])
-
 abbrev core_owing : Call
 core_owing = admission (0 ∷ 1 ∷ 1 ∷ 9 ∷ 1000 ∷ 2000 ∷ 10 ∷ 77 ∷ 1 ∷ 4 ∷ 7 ∷ 4 ∷ 1 ∷ 0 ∷ [])
 
 -- a whole entry over shard 5's route, executed, with a departure of shard 5
 abbrev answering : ℕ → List Call
 answering cut = whole_over (2 ^ 62) ∷ certify 9 2 ∷ terminal 5 cut 1 30 ∷ []
+
+-- transaction 9 with end 1000 and an at that tells the two apart: a leg, a core with an owed edge, whole
+abbrev leg_at : ℕ → Call
+leg_at at = admission (0 ∷ 1 ∷ 0 ∷ 9 ∷ at ∷ 1000 ∷ 10 ∷ 77 ∷ 1 ∷ 5 ∷ [])
+
+abbrev core_at : ℕ → Call
+core_at at = admission (0 ∷ 1 ∷ 1 ∷ 9 ∷ at ∷ 1000 ∷ 10 ∷ 77 ∷ 1 ∷ 4 ∷ 7 ∷ 4 ∷ 1 ∷ 0 ∷ [])
+
+abbrev whole_at : ℕ → Call
+whole_at at = admission (0 ∷ 0 ∷ 0 ∷ 9 ∷ at ∷ 1000 ∷ 10 ∷ 77 ∷ 0 ∷ [])
+
+-- what a prune says at the last clock before end + L, and what at that sum
+abbrev about_horizon : List Call → List ℕ
+about_horizon cs = says cs (prune 1199 3) ++ says cs (prune 1200 3)
 
 -- transaction 9 accepted by one line, and by two
 abbrev accepted : Call
@@ -83,9 +94,17 @@ table =
       stated = 0 ∷ 0 ∷ 0 ∷ 0 ∷ 1 ∷ 1 ∷ 9 ∷ 0 ∷ 77 ∷ [];
     }
     ∷ record {
-      name = "d: a leg with at 1000 stands at 1199, falls at 1200";
-      given = says (leg_alone ∷ []) (prune 1199 3) ++ says (leg_alone ∷ []) (prune 1200 3);
-      stated = 0 ∷ 0 ∷ 0 ∷ 0 ∷ 0 ∷ 1 ∷ [];
+      name = "d: a leg with end 1000 stands at 1199, falls at 1200, whether its at is 900 or 1100";
+      given = concat_map (λ (at : ℕ). about_horizon (leg_at at ∷ [])) (900 ∷ 1100 ∷ []);
+      stated = 0 ∷ 0 ∷ 0 ∷ 0 ∷ 0 ∷ 1 ∷ 0 ∷ 0 ∷ 0 ∷ 0 ∷ 0 ∷ 1 ∷ [];
+    }
+    ∷ record {
+      name = "d, of a remainder; of a whole entry with an absence; without one it is judged from its at";
+      given =
+          about_horizon (core_at 900 ∷ accepted ∷ [])
+          ++ about_horizon (whole_at 900 ∷ absence 9 5 1 ∷ [])
+          ++ about_horizon (whole_at 1100 ∷ []);
+      stated = 0 ∷ 0 ∷ 0 ∷ 0 ∷ 0 ∷ 1 ∷ 0 ∷ 0 ∷ 0 ∷ 0 ∷ 0 ∷ 1 ∷ 0 ∷ 0 ∷ 0 ∷ 0 ∷ 0 ∷ 1 ∷ [];
     }
     ∷ record {
       name = "e: core, certificate 0, stands at 2^48 - 1; executed it does not";
@@ -114,7 +133,7 @@ table =
     }
     ∷ record {
       name = "i: a leg without records never closes";
-      given = says (leg_alone ∷ []) (closes 2);
+      given = says (leg_at 1000 ∷ []) (closes 2);
       stated = 0 ∷ 0 ∷ [];
     }
     ∷ record {
@@ -150,7 +169,7 @@ table =
     }
     ∷ record {
       name = "rule 2 before rule 3: a leg named for a shard without a departure stands to its horizon, then falls unreported";
-      given = says (leg_alone ∷ record_of 6 ∷ []) (prune 1199 3) ++ says (leg_alone ∷ record_of 6 ∷ []) (prune 1200 3);
+      given = about_horizon (leg_at 900 ∷ record_of 6 ∷ []);
       stated = 0 ∷ 0 ∷ 0 ∷ 0 ∷ 0 ∷ 1 ∷ [];
     }
     ∷ []

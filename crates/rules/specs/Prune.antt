@@ -43,9 +43,9 @@ abbrev pub answerable : ℕ → Option Departure → Bool
 answerable now none = true
 answerable now (some d) = readable now d
 
--- the ends of the windows by which rules 2 and 5 judge
+-- the ends of the windows by which rules 2 and 5 judge: [end, end + L) counts from the end of the validity, [at, at + V) from the deadline
 abbrev pub leg_horizon : Plain → Entry → ℕ
-leg_horizon p e = e.terms.at + p.leg_span
+leg_horizon p e = e.terms.end + p.leg_span
 
 abbrev pub validity_horizon : Plain → Entry → ℕ
 validity_horizon p e = e.terms.at + p.validity

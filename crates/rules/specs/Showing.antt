@@ -59,12 +59,12 @@ whole_over t anchor route = admission (over_words t anchor route)
 abbrev whole_alone : ℕ → Call
 whole_alone t = admission (admission_of t 1000)
 
--- a leg at a time with one record of key 7; the same, settled
+-- a leg at 900 with an end and one record of key 7; the same, settled
 abbrev leg_of : ℕ → ℕ → Call
-leg_of t at = admission (0 ∷ 0 ∷ 1 ∷ t ∷ at ∷ 2000 ∷ 10 ∷ 77 ∷ 1 ∷ 7 ∷ 4 ∷ 0 ∷ 0 ∷ [])
+leg_of t end = admission (0 ∷ 0 ∷ 1 ∷ t ∷ 900 ∷ end ∷ 10 ∷ 77 ∷ 1 ∷ 7 ∷ 4 ∷ 0 ∷ 0 ∷ [])
 
 abbrev settled_leg : ℕ → ℕ → List Call
-settled_leg t at = leg_of t at ∷ settled 7 t ∷ []
+settled_leg t end = leg_of t end ∷ settled 7 t ∷ []
 
 abbrev recorded : ℕ → ℕ → Call
 recorded shard t = abandonment (record_of shard (t ∷ []))
@@ -93,6 +93,15 @@ apart =
       fails = [];
       with = 0 ∷ 0 ∷ 0 ∷ 1 ∷ 0 ∷ 0 ∷ 7 ∷ 1 ∷ 77 ∷ 2 ∷ 0 ∷ 0 ∷ [];
       without = 0 ∷ 0 ∷ 0 ∷ 1 ∷ 0 ∷ 0 ∷ 7 ∷ 1 ∷ 77 ∷ 2 ∷ 0 ∷ 0 ∷ [];
+    }
+    ∷ record {
+      name = "a fate of a leg that would have fallen if L counted from its at, and stands";
+      made = leg_of 9 1000 ∷ [];
+      calls = prune 1199 144 ∷ fated 9 ∷ [];
+      last = 1199;
+      fails = [];
+      with = 0 ∷ 2 ∷ 0 ∷ 0 ∷ 0 ∷ [];
+      without = 0 ∷ 2 ∷ 0 ∷ 0 ∷ 0 ∷ [];
     }
     ∷ record {
       name = "two admissions, an absence, a finalization, a fate, a forgetting";

@@ -73,6 +73,8 @@ impl Deadline {
     }
 }
 
+/// The window of a core entry's reads, and that of an entry which waits for what others settle: the first opens at
+/// the deadline, the second at the end of the validity, as the protocol group has it now.
 pub enum Window {
     Core,
     LegEntry,
@@ -81,11 +83,10 @@ pub enum Window {
 impl Window {
     pub fn of(self, deadline: Deadline) -> Range<WeightedTimestamp> {
         let spans = STANDING.get();
-        let length = match self {
-            Self::Core => spans.core,
-            Self::LegEntry => spans.leg_entry,
+        let (opens, length) = match self {
+            Self::Core => (deadline.at(), spans.core),
+            Self::LegEntry => (deadline.validity_end(), spans.leg_entry),
         };
-        let opens = deadline.at();
         opens..WeightedTimestamp(opens.0 + length)
     }
 }

@@ -19,7 +19,7 @@ returns-then-by_window c p faces =
     let s = c.args in
     let e = plain_entry s.e.now in
     let fits = rule_2 p.local e (sym c.is_awaiting.ensures ∙ c.if-is_awaiting.false) (sym c.is_settling-settles.ensures ∙ c.if-by_window.true) in
-    let same = c.unless.ensures ∙ ap (unless Falls) c.is_before.ensures ∙ ap (λ m. unless Falls (ltb s.time.0 (s.e.now.at.0 + m))) (sym faces.leg_span) in
+    let same = c.unless.ensures ∙ ap (unless Falls) c.is_before.ensures ∙ ap (λ m. unless Falls (ltb s.time.0 (s.e.now.end.0 + m))) (sym faces.leg_span) in
     subst (λ v. Says v p s.time.0 e) (sym same) (says_quiet p s.time.0 e settling fits refl)
 
 pub returns-then-named : goal.returns-then-named
