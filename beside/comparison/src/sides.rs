@@ -1,5 +1,5 @@
-//! Counts the entries that a prune judged while at and end lay on different sides of the clock: a rule that reads the one and a rule that reads the
-//! other can part there alone. What rules 2 and 5 say is held to the time that each reads: end + L and at + V.
+//! Counts the entries that a prune judged while at and end lay on different sides of the clock, and those that rules 2 and 5 would have judged
+//! otherwise by the other of the two. What these rules say is held to the time that each reads: end + L and at + V.
 
 use std::fmt;
 
@@ -54,11 +54,8 @@ impl Sides {
 
 impl Went {
     fn count(&mut self, stood: bool) {
-        *if stood {
-            &mut self.stood
-        } else {
-            &mut self.fell
-        } += 1;
+        self.stood += u64::from(stood);
+        self.fell += u64::from(!stood);
     }
 }
 
@@ -66,7 +63,7 @@ impl fmt::Display for Sides {
     fn fmt(&self, f: &mut fmt::Formatter) -> fmt::Result {
         write!(
             f,
-            "clock between at and end: stood, fell       at has come           end has come          the other would say otherwise"
+            "at and end apart: stood, fell                 only at has come     only end has come  the other: otherwise"
         )?;
         for (rule, name) in RULES {
             let Apart {
