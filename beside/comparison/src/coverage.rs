@@ -9,7 +9,6 @@ use crate::left_out::{LeftOut, Verdict};
 use crate::limits::Limits;
 use crate::prunes::{Judged, Prunes, Rule};
 use crate::series::{Listener, Pairs};
-use crate::sides::Apart;
 
 const REFUSALS: usize = 12;
 const REMAINDER: u64 = 3;
@@ -71,11 +70,6 @@ impl Coverage {
 
     pub fn judged(&self, rule: Rule) -> Judged {
         self.prunes.by(rule)
-    }
-
-    /// How entries were judged by that rule while at and end lay on different sides of the clock.
-    pub fn apart(&self, rule: Rule) -> Apart {
-        self.prunes.apart(rule)
     }
 
     pub fn bundles(&self) -> &Bundles {

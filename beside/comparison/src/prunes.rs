@@ -4,7 +4,7 @@ use std::fmt;
 
 use reference::{Book, ENTRIES, FILLER, Given, Remote, Reply, Standing, call_named};
 
-use crate::sides::{Apart, Sides};
+use crate::sides::{HEAD, Sides};
 
 const LEG: u64 = 1;
 const CORE: u64 = 2;
@@ -40,22 +40,15 @@ pub struct Judged {
     pub stood_last: u64,
     pub fell: u64,
     pub fell_first: u64,
+    pub sides: Sides,
 }
 
 #[derive(Default)]
-pub struct Prunes {
-    judged: [Judged; RULES.len()],
-    sides: Sides,
-}
+pub struct Prunes([Judged; RULES.len()]);
 
 impl Prunes {
     pub fn by(&self, rule: Rule) -> Judged {
-        self.judged[rule as usize]
-    }
-
-    /// Of those, the ones whose at and end lay on different sides of the clock.
-    pub fn apart(&self, rule: Rule) -> Apart {
-        self.sides.by(rule)
+        self.0[rule as usize]
     }
 
     /// Count a prune at `now` that was accepted.
@@ -66,9 +59,9 @@ impl Prunes {
         let tally = before.tally();
         for (&transaction, entry) in &tally.owed {
             let rule = first_that_fits(entry);
-            let judged = &mut self.judged[rule as usize];
+            let judged = &mut self.0[rule as usize];
             let stands = after.owes(transaction);
-            self.sides.count(now, rule, entry, &tally, stands);
+            judged.sides.count(now, rule, entry, &tally, stands);
             if stands {
                 let goes = later.as_ref().is_some_and(|book| !book.owes(transaction));
                 judged.stood += 1;
@@ -136,12 +129,17 @@ impl fmt::Display for Prunes {
                 stood_last,
                 fell,
                 fell_first,
+                ..
             } = self.by(rule);
             write!(
                 f,
                 "\n{name:<38} {stood:>8}  {stood_last:>19}  {fell:>8}  {fell_first:>14}"
             )?;
         }
-        write!(f, "\n{}", self.sides)
+        write!(f, "\n{HEAD}")?;
+        for (rule, name) in RULES {
+            write!(f, "\n{name:<38}{}", self.by(rule).sides)?;
+        }
+        Ok(())
     }
 }

@@ -1,11 +1,11 @@
-//! Counts the entries that a prune judged while at and end lay on different sides of the clock, and those that rules 2 and 5 would have judged
-//! otherwise by the other of the two. What these rules say is held to the time that each reads: end + L and at + V.
+//! Counts the entries that a prune judged by one rule while at and end lay on different sides of the clock, and those that rule 2 or 5 would have
+//! judged otherwise by the other of the two. What these rules say is held to the time that each reads: end + L and at + V.
 
 use std::fmt;
 
 use reference::{Standing, Tally};
 
-use crate::prunes::{RULES, Rule};
+use crate::prunes::Rule;
 
 /// How many stood and how many fell.
 #[derive(Clone, Copy, Default)]
@@ -14,9 +14,8 @@ pub struct Went {
     pub fell: u64,
 }
 
-/// Entries judged by one rule.
 #[derive(Clone, Copy, Default)]
-pub struct Apart {
+pub struct Sides {
     /// At has come and end has not; end has come and at has not.
     pub at_alone: Went,
     pub end_alone: Went,
@@ -24,20 +23,15 @@ pub struct Apart {
     pub otherwise: Went,
 }
 
-#[derive(Default)]
-pub struct Sides([Apart; RULES.len()]);
+/// Stands above the columns of each rule.
+pub const HEAD: &str = "at and end apart: stood, fell                 only at has come     only end has come  the other: otherwise";
 
 impl Sides {
-    pub fn by(&self, rule: Rule) -> Apart {
-        self.0[rule as usize]
-    }
-
-    /// Count an entry that was judged at `now`, of the ledger before.
+    /// Count an entry that was judged at `now` by the rule, of the ledger before.
     pub fn count(&mut self, now: u64, rule: Rule, entry: &Standing, before: &Tally, stood: bool) {
-        let apart = &mut self.0[rule as usize];
         match (entry.at <= now, entry.end <= now) {
-            (true, false) => apart.at_alone.count(stood),
-            (false, true) => apart.end_alone.count(stood),
+            (true, false) => self.at_alone.count(stood),
+            (false, true) => self.end_alone.count(stood),
             _ => {}
         }
         let (read, other) = match rule {
@@ -47,7 +41,7 @@ impl Sides {
         };
         assert_eq!(stood, read > now, "judged by another time than its rule's");
         if stood != (other > now) {
-            apart.otherwise.count(stood);
+            self.otherwise.count(stood);
         }
     }
 }
@@ -61,20 +55,8 @@ impl Went {
 
 impl fmt::Display for Sides {
     fn fmt(&self, f: &mut fmt::Formatter) -> fmt::Result {
-        write!(
-            f,
-            "at and end apart: stood, fell                 only at has come     only end has come  the other: otherwise"
-        )?;
-        for (rule, name) in RULES {
-            let Apart {
-                at_alone,
-                end_alone,
-                otherwise,
-            } = self.by(rule);
-            write!(f, "\n{name:<38}")?;
-            for Went { stood, fell } in [at_alone, end_alone, otherwise] {
-                write!(f, " {stood:>10} {fell:>10}")?;
-            }
+        for Went { stood, fell } in [self.at_alone, self.end_alone, self.otherwise] {
+            write!(f, " {stood:>10} {fell:>10}")?;
         }
         Ok(())
     }

@@ -1,6 +1,8 @@
 //! Holds the generator to its purpose: every refusal of every call, every rule of prune standing and falling, and every way an
 //! entry goes, comes up in a few thousand scripts.
 
+use std::sync::LazyLock;
+
 use comparison::bundles::EDGES;
 use comparison::coverage::Coverage;
 use comparison::prunes::{RULES, Rule};
@@ -30,17 +32,19 @@ const REFUSALS: [(&str, &[u64]); 20] = [
     ("reach", &[9]),
 ];
 
-fn covered(names: &Names, scripts: u64) -> Coverage {
+/// One run of the generator, of which every test asks another thing.
+static COVERAGE: LazyLock<Coverage> = LazyLock::new(|| {
+    let names = Names::all();
     let mut coverage = Coverage::default();
-    for index in 0..scripts {
-        coverage.run(&script(5, index, names).text, &mut Vec::new());
+    for index in 0..6000 {
+        coverage.run(&script(5, index, &names).text, &mut Vec::new());
     }
     coverage
-}
+});
 
 #[test]
 fn every_refusal_and_every_exit_comes_up() {
-    let coverage = covered(&Names::all(), 6000);
+    let coverage = &*COVERAGE;
     for (name, numbers) in REFUSALS {
         for number in numbers {
             assert!(
@@ -58,7 +62,7 @@ fn every_refusal_and_every_exit_comes_up() {
 /// By rule 1 nobody falls, and by rule 4 nobody who has a route without departure.
 #[test]
 fn every_rule_stands_and_falls_to_its_edge() {
-    let coverage = covered(&Names::all(), 6000);
+    let coverage = &*COVERAGE;
     for (rule, name) in RULES {
         let judged = coverage.judged(rule);
         assert!(judged.stood > 100, "{name}: {coverage}");
@@ -71,45 +75,36 @@ fn every_rule_stands_and_falls_to_its_edge() {
     }
 }
 
+/// By each rule: whether any stand and any fall of whom only at has come, and of whom only end has.
+const SIDES: [(Rule, [bool; 4]); 5] = [
+    (Rule::Leg, [true, false, true, true]),
+    (Rule::Absent, [true, false, true, true]),
+    (Rule::Open, [true, false, true, false]),
+    (Rule::Departed, [true; 4]),
+    (Rule::Deadline, [true, true, true, false]),
+];
+
 /// Rule 2 reads end, rule 5 at, and rule 4 neither: nobody falls by rule 2 whose end is to come, nor by rule 5 whose at is.
 #[test]
 fn at_and_end_lie_on_different_sides_of_the_clock() {
-    let coverage = covered(&Names::all(), 6000);
-    let come_up = |counts: &[u64]| counts.iter().all(|count| *count > 20);
-    for rule in [Rule::Leg, Rule::Absent] {
-        let apart = coverage.apart(rule);
-        let [at, end, other] = [apart.at_alone, apart.end_alone, apart.otherwise];
-        assert_eq!(at.fell, 0, "{coverage}");
+    let coverage = &*COVERAGE;
+    for (rule, any) in SIDES {
+        let sides = coverage.judged(rule).sides;
+        let [at, end, other] = [sides.at_alone, sides.end_alone, sides.otherwise];
+        for (count, any) in [at.stood, at.fell, end.stood, end.fell].iter().zip(any) {
+            assert!(if any { *count > 20 } else { *count == 0 }, "{coverage}");
+        }
+        let reads_neither = matches!(rule, Rule::Open | Rule::Departed);
         assert!(
-            come_up(&[at.stood, end.stood, end.fell, other.stood, other.fell]),
+            reads_neither || other.stood.min(other.fell) > 20,
             "{coverage}"
         );
     }
-    let [open, departed] = [Rule::Open, Rule::Departed].map(|rule| coverage.apart(rule));
-    assert_eq!(
-        (open.at_alone.fell, open.end_alone.fell),
-        (0, 0),
-        "{coverage}"
-    );
-    assert!(
-        come_up(&[open.at_alone.stood, open.end_alone.stood]),
-        "{coverage}"
-    );
-    for went in [departed.at_alone, departed.end_alone] {
-        assert!(come_up(&[went.stood, went.fell]), "{coverage}");
-    }
-    let apart = coverage.apart(Rule::Deadline);
-    let [at, end, other] = [apart.at_alone, apart.end_alone, apart.otherwise];
-    assert_eq!(end.fell, 0, "{coverage}");
-    assert!(
-        come_up(&[at.stood, at.fell, end.stood, other.stood, other.fell]),
-        "{coverage}"
-    );
 }
 
 #[test]
 fn bundles_come_to_every_edge() {
-    let coverage = covered(&Names::all(), 2000);
+    let coverage = &*COVERAGE;
     let bundles = coverage.bundles();
     for (size, [accepted, refused]) in bundles.by_size() {
         let too_many = size.starts_with("65");
@@ -127,7 +122,7 @@ fn bundles_come_to_every_edge() {
 
 #[test]
 fn several_prunes_are_set_against_one() {
-    let coverage = covered(&Names::all(), 2000);
+    let coverage = &*COVERAGE;
     let pairs = coverage.pairs();
     assert_eq!(pairs.different, 0);
     assert!(pairs.equal > 100, "{coverage}");
@@ -135,7 +130,7 @@ fn several_prunes_are_set_against_one() {
 
 #[test]
 fn prunes_are_left_out() {
-    let coverage = covered(&Names::all(), 2000);
+    let coverage = &*COVERAGE;
     let passing = coverage.left_out().passing;
     assert_eq!(passing.shown, 0);
     assert!(passing.pairs > 50, "{coverage}");
@@ -143,7 +138,7 @@ fn prunes_are_left_out() {
 
 #[test]
 fn every_limit_is_reached() {
-    let coverage = covered(&Names::all(), 6000);
+    let coverage = &*COVERAGE;
     for (name, dumps) in coverage.limits().reached() {
         assert!(dumps > 0, "never as many {name} as may be");
     }
