@@ -1,6 +1,6 @@
 -- The words in which the rules speak of lists: keeping, finding, changing and putting in by key, for any type of element.
 -- A test is a function to Bool; a key is a function to ℕ, by which lists are kept in rising order.
-use Rattle.std.specs.Prelude.{ℕ, ◌+◌, ◌<◌, Bool, true, false, cond, not, ◌&&◌, List, [], ◌∷◌, ◌++◌, eqb, ltb, take, drop}
+use Rattle.std.specs.Prelude.{ℕ, ◌+◌, ◌<◌, Bool, true, false, cond, not, ◌&&◌, List, [], ◌∷◌, ◌++◌, eqb, ltb, take, drop, replicate}
 use Rattle.std.specs.List.{list_any, list_all}
 use Rattle.std.proofs.Math.Option.{Option, none, some}
 
@@ -146,3 +146,7 @@ part from n l = take n (drop from l)
 abbrev pub cut : List ℕ → List ℕ → List (List ℕ)
 cut [] l = []
 cut (n ∷ ns) l = take n l ∷ cut ns (drop n l)
+
+-- n lists of so many words each
+abbrev pub rows : ℕ → ℕ → List ℕ → List (List ℕ)
+rows size n l = cut (replicate n size) l

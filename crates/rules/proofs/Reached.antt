@@ -19,12 +19,12 @@ use Rattle.rules.specs.Numbers.{is_word, is_time, is_shard, is_span, max_entries
 use Rattle.rules.specs.Plain.{Part, whole, leg, core, remainder, Edge, Terms, Absence, Entry, Departure, Plain, transaction_of, absence_key, shard_of, empty, with_entries, with_departures, with_rebuilt, issues, owes, is_settling}
 use Rattle.rules.specs.Calls.{Call, admission, absence, certify, abandonment, settled, returned, finalization, forget, terminal, step, run, making, stamped, terminal_refusal, after_terminal, certify_refusal, after_certify, absence_refusal, after_absence, abandonment_refusal, after_abandonment, after_mark, after_finalization, admission_refusal, after_admission, after_forget}
 use Rattle.rules.specs.Entries.{entry, admitted, certified, is_read, read_absent, with_departed_by, with_part, marked}
-use Rattle.rules.specs.Words.{record_formed, record_timed, record_groups, finalization_formed, finalization_lines, deciding}
+use Rattle.rules.specs.Words.{admission_words, record_formed, record_timed, record_groups, finalization_formed, finalization_lines, deciding}
 use Rattle.rules.specs.Outcome.{Outcome, unless}
 use Rattle.rules.specs.Good.{GoodTerms, GoodAbsence, Marked, GoodPart, is_departed_by, GoodEntry, GoodStamp, GoodDeparture, Good, OfWords}
 use Rattle.rules.specs.Reached.{Leads, Reached}
 use Rattle.rules.proofs.Kept.{run-good, making-good}
-use Rattle.rules.proofs.Written.{shard-word, admission_words, routes-read, terms-read, core-read, words_formed, words-timed, words_placed, words-words}
+use Rattle.rules.proofs.Written.{shard-word, routes-read, terms-read, core-read, words_formed, words-timed, words_placed, words-words}
 
 -- Lists of calls.
 run-append : (a b : List Call) (p : Plain) → run (a ++ b) p ≡ run b (run a p)

@@ -15,7 +15,7 @@ use Rattle.lists.proofs.Keep.{all_every, every_append, every_map, every_more}
 use Rattle.lists.proofs.Order.{test_ascending}
 use Rattle.rules.specs.Numbers.{is_word, is_time, is_shard, max_routes, max_core, max_edges, max_destinations}
 use Rattle.rules.specs.Plain.{Edge, Terms}
-use Rattle.rules.specs.Words.{edge, with, sizes, kinds, froms, core_in, destinations, destinations_at, edges_in, admission_terms, admission_formed, admission_timed, admission_placed}
+use Rattle.rules.specs.Words.{edge, with, sizes, kinds, froms, core_in, destinations, destinations_at, edges_in, admission_terms, admission_formed, admission_timed, admission_placed, admission_words}
 use Rattle.rules.specs.Good.{Holds, GoodEdge, GoodTerms}
 
 -- small numbers, times and shards are words
@@ -103,19 +103,6 @@ module _ (d : ℕ) (t : Terms) where
   abbrev cored : List ℕ
   cored = t.core_shards ++ crossed
 
-  abbrev pub admission_words : List ℕ
-  admission_words =
-      length t.routes
-      ∷ length t.core_shards
-      ∷ length gs
-      ∷ t.transaction
-      ∷ t.at
-      ∷ t.end
-      ∷ t.anchor
-      ∷ t.charge
-      ∷ d
-      ∷ (t.routes ++ cored)
-
   abbrev r : ℕ
   r = length t.routes
 
@@ -126,7 +113,7 @@ module _ (d : ℕ) (t : Terms) where
   e = length gs
 
   abbrev ws : List ℕ
-  ws = admission_words
+  ws = admission_words d t
 
   routes-rest : drop 9 ws ≡ t.routes ++ cored
   routes-rest = refl

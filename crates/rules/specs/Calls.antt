@@ -11,13 +11,16 @@ use Rattle.rules.specs.Prune.{report_words, fallen, reports, pruned}
 use Rattle.rules.specs.Outcome.{Outcome, done, unless, if_done, ◌gives◌then◌, too_short, yes_no}
 
 -- Making a ledger. A refused making hands back the empty ledger of local 1 with spans of 1.
+abbrev pub not_made : Plain
+not_made = empty 1 1 1 1
+
 abbrev pub making_refusal : ℕ → ℕ → ℕ → ℕ → ℕ
 making_refusal local v c l =
     not (is_shard local) gives 1 then
     not (all_of (is_span v ∷ is_span c ∷ is_span l ∷ [])) gives 2 then 0
 
 unfoldable pub making : ℕ → ℕ → ℕ → ℕ → Outcome
-making local v c l = unless (making_refusal local v c l) (empty 1 1 1 1) (done [] (empty local v c l))
+making local v c l = unless (making_refusal local v c l) not_made (done [] (empty local v c l))
 
 -- Taking in entries, 6: distinct transactions not yet owed outnumber the free entries
 abbrev pub unowed : List ℕ → Plain → List ℕ

@@ -9,6 +9,7 @@ pub mod Entries
 pub mod Calls
 pub mod Readings
 pub mod Good
+pub mod Snapshot
 pub mod Reached
 pub mod LeftOut
 pub mod Bundles

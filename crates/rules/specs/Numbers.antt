@@ -69,6 +69,9 @@ max_destinations = 4
 abbrev pub max_absences : ℕ
 max_absences = 8
 
+abbrev pub max_marks : ℕ
+max_marks = 8
+
 abbrev pub max_items : ℕ
 max_items = 64
 

@@ -1,5 +1,5 @@
 -- Paper, 'Words that come in': sizes first, then parallel arrays. What the words say, and what 5, 3 and 4 ask of them.
-use Rattle.std.specs.Prelude.{ℕ, ◌+◌, ◌*◌, Bool, ◌&&◌, List, [], ◌∷◌, eqb, leb, length, get_or, drop}
+use Rattle.std.specs.Prelude.{ℕ, ◌+◌, ◌*◌, Bool, ◌&&◌, List, [], ◌∷◌, ◌++◌, map, eqb, leb, length, get_or, drop}
 use Rattle.lists.specs.Lists.{keep, all, all_of, filled, ascending, total, zip_by, concat_map, self, part, cut}
 use Rattle.rules.specs.Numbers.{is_time, is_shard, max_entries, max_routes, max_core, max_edges, max_destinations, max_items}
 use Rattle.rules.specs.Plain.{Edge, Terms}
@@ -118,6 +118,26 @@ module _ (ws : List ℕ) where
 
   unfoldable pub admission_placed : Bool
   admission_placed = all_of (all is_shard core_in ∷ all is_shard froms ∷ all is_shard (drop destinations_at ws) ∷ [])
+
+-- the other way: the words of terms, with decomposed before the arrays
+abbrev pub admission_words : ℕ → Terms → List ℕ
+admission_words is_decomposed t =
+    length t.routes
+    ∷ length t.core_shards
+    ∷ length t.edges
+    ∷ (transaction_words t.transaction
+    ++ (t.at
+    ∷ t.end
+    ∷ t.anchor
+    ∷ t.charge
+    ∷ is_decomposed
+    ∷ (t.routes
+    ++ (t.core_shards
+    ++ (map (λ (g : Edge). g.id) t.edges
+    ++ (map (λ (g : Edge). g.from) t.edges
+    ++ (map (λ (g : Edge). g.kind) t.edges
+    ++ (map (λ (g : Edge). length g.to) t.edges
+    ++ concat_map (λ (g : Edge). g.to) t.edges))))))))
 
 -- Abandonment record: n, shard; n reach sizes; n groups of transaction, at, end, anchor, charge; routes joined.
 module _ (ws : List ℕ) where
