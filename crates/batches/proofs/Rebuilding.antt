@@ -39,10 +39,10 @@ use Rattle.store.specs.Roster.{keys_of, free_slot, is, below, Inserted}
 use Rattle.words.specs.Taken.{group_at, reach_at}
 use Rattle.words.proofs.Groups.{groups_length, reach_start, reach-next, group_at_lem}
 use Rattle.ledger.specs.declared.Ledger.{Ledger}
-use Rattle.ledger.specs.Contents.{contents, entries_of, Held, with_parts, with_count, storing, slot_at, lying_at}
+use Rattle.ledger.specs.Contents.{contents, entries_of, Held, with_parts, with_count, storing, slot_at, lying_at, Became}
 use Rattle.ledger.specs.Meets.{Meets, says, says_no}
 use Rattle.ledger.proofs.Places.{entries-length, found_at, not_found}
-use Rattle.ledger.proofs.Lift.{Became, counted, changed, taken_in}
+use Rattle.ledger.proofs.Lift.{counted, changed, taken_in}
 use Rattle.ledger.proofs.Meeting.{refuses, passes, answers}
 use Rattle.ledger.proofs.Doing.{Doing, nothing-done, one_done, all_done}
 use Rattle.batches.specs.Abandoned.{transactions, new_to, refusal_by}

@@ -34,10 +34,10 @@ use Rattle.store.specs.Issuers as issuers
 use Rattle.store.specs.Issuers.{is_not, pairs_in}
 use Rattle.words.proofs.Lines.{lines_length}
 use Rattle.ledger.specs.declared.Ledger.{Ledger}
-use Rattle.ledger.specs.Contents.{contents, Held, with_parts, storing, slot_at, lying_at}
+use Rattle.ledger.specs.Contents.{contents, Held, with_parts, storing, slot_at, lying_at, Became}
 use Rattle.ledger.specs.Meets.{Meets, says, says_no}
 use Rattle.ledger.proofs.Places.{found_at, not_found}
-use Rattle.ledger.proofs.Lift.{Became, changed, let_go}
+use Rattle.ledger.proofs.Lift.{changed, let_go}
 use Rattle.ledger.proofs.Meeting.{refuses, passes, answers}
 use Rattle.ledger.proofs.Doing.{Doing, one_done, all_done}
 use Rattle.batches.specs.declared.finalization.Ruling as declared

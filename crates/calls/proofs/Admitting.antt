@@ -1,9 +1,9 @@
 -- Admission: what each line of its table and each branch after it gives, from what the parts did.
 -- Assumes nothing.
-use Rattle.std.specs.Prelude.{Some, None}
+use Rattle.std.specs.Prelude.{Option, Some, None}
 use Prim.Native.Nat.{ℕ, ◌-◌, ◌≤◌, ◌<◌}
 use mathlib.Core.Path.{◌≡◌, refl, sym, ap, ◌∙◌}
-use mathlib.Core.Bool.{Bool, true, false, not}
+use mathlib.Core.Bool.{Bool, true, false, not, true≢false}
 use mathlib.Core.List.{List, [], ◌∷◌}
 use native.Mathlib.Omega.{arith}
 use lib.Dec.{eqb, leb}
@@ -13,9 +13,9 @@ use Rattle.lists.specs.Lists.{Every, has, include, include_all}
 use Rattle.lists.specs.Arrays.{place, rank}
 use Rattle.lists.proofs.Tests.{by_cond, same_test}
 use Rattle.lists.proofs.Parts.{every_get_d}
-use Rattle.lists.proofs.Order.{include-known}
+use Rattle.lists.proofs.Order.{include-known, length-include_new}
 use Rattle.rules.specs.Numbers.{is_word}
-use Rattle.rules.specs.Plain.{transaction_of, with_entries, owed}
+use Rattle.rules.specs.Plain.{Plain, transaction_of, with_entries, owed}
 use Rattle.rules.specs.Words.{decomposed, admission_terms, admission_formed, admission_timed, admission_placed}
 use Rattle.rules.specs.Entries.{admitted}
 use Rattle.rules.specs.Index.{pair_key, pairs_of, index}
@@ -36,12 +36,12 @@ use Rattle.store.specs.declared.issuers.Issuers.{Issuers}
 use Rattle.store.specs.Roster.{keys_of, free_slot, is, below, Inserted}
 use Rattle.store.specs.Issuers as issuers
 use Rattle.ledger.specs.declared.Ledger.{Ledger}
-use Rattle.ledger.specs.Contents.{contents, Held, with_parts}
+use Rattle.ledger.specs.Contents.{contents, Held, Became, with_parts}
 use Rattle.ledger.specs.Meets.{Meets, says, says_no}
 use Rattle.ledger.proofs.Places.{entries-length, found_at, not_found}
 use Rattle.ledger.proofs.Lift.{taken_in}
 use Rattle.ledger.proofs.Meeting.{lines, lines_first, lines_pass, numbered, refuses, passes, answers, good-after}
-use Rattle.calls.specs.Naming.{Nameable, with_pairs}
+use Rattle.calls.specs.Naming.{Nameable, with_pairs, Enters}
 use Rattle.calls.specs.Refusals.{words_refusal}
 
 lines_none : (a b c : Bool) (m : ℕ) → lines 4 2 3 a b c m ≡ 0 → (a ≡ true) × (m ≡ 0)
@@ -49,6 +49,44 @@ lines_none false b c m e = absurd (omega arith)
 lines_none true false c m e = absurd (omega arith)
 lines_none true true false m e = absurd (omega arith)
 lines_none true true true m e = (refl, e)
+
+-- An entry of a transaction that is not owed put in.
+module _ (l : Ledger) (x : Entry) (e : Enters x l) where
+  abbrev key : ℕ
+  key = number_of x.tx
+
+  abbrev more : Plain
+  more = with_entries (include transaction_of (plain_entry x) (contents l).entries) (contents l)
+
+  fresh : (f : Option ℕ) → place (is key) 0 (keys_of l.roster) ≡ f → place (is key) 0 (keys_of l.roster) ≡ None
+  fresh None q = q
+  fresh (Some k) q = absurd (true≢false (sym (found_at l e.held key k q).known ∙ e.unknown))
+
+  missed : place (is key) 0 (keys_of l.roster) ≡ None
+  missed = fresh _ refl
+
+  pub free : l.roster.len < 48
+  unfolding contents plain_entry
+  free = omega (arith, entries-length l e.held, length-include_new transaction_of (plain_entry x) (contents l).entries e.unknown, e.good.entries.count)
+
+  word : IsOfWord (plain_entry x)
+  unfolding plain_entry
+  word = e.word
+
+  -- there is room for its pairs
+  pub nameable : Nameable l.issuers x l.local.0
+  unfolding index contents plain_entry
+  nameable =
+      let pairs : index more ≡ with_pairs l.local.0 x l.issuers =
+      index_of-include l.local.0 (plain_entry x) (contents l).entries word (good-words e.held.good) e.unknown
+      ∙ ap (include_all pair_key (pairs_of l.local.0 (plain_entry x))) (sym e.held.issuers.pairs) in
+      omega (arith, ap length pairs, index-size more e.good)
+
+  pub enters_in : (k : ℕ) → k ≡ rank (below key) (keys_of l.roster) → (b : Roster) → Inserted l.roster k key b → (y : Issuers) → issuers.Holds (with_pairs l.local.0 x l.issuers) y →
+      (s : length (set l.entries (free_slot l.roster) x) ≡ 48) → Became more (with_parts l l.rebuilt b (set l.entries (free_slot l.roster) x) y l.departures s)
+  enters_in k v b op y i s =
+      taken_in l e.held k x b y missed v free word op
+      (record { pairs = i.pairs ∙ ap (include_all pair_key (pairs_of l.local.0 (plain_entry x))) e.held.issuers.pairs }) e.good s
 
 pub admitted-transaction : (local : ℕ) (ws : List ℕ) → transaction_of (admitted local ws) ≡ (admission_terms ws).transaction
 unfolding admitted
@@ -119,36 +157,18 @@ module _ (l : Ledger) (h : Held l) (ws : List ℕ) where
           unfolding plain_entry
           same = ap transaction_of plain ∙ admitted-transaction (contents l).local ws
 
-          missed : place (is (number_of x.tx)) 0 (keys_of l.roster) ≡ None
-          missed = rw same u
+          pub enters : Enters x l
+          unfolding after_admission admission_terms
+          enters =
+              record {
+                held = h;
+                word = rw same (every_get_d (Holds is_word) 0 3 ws refl w);
+                unknown = rw same (not_found l h t u).known;
+                good = rw plain (good-after (admission_refusal ws (contents l)) (contents l) o fits (step-good (admission ws) w (contents l) h.good));
+              }
 
-          unknown : has transaction_of (transaction_of (plain_entry x)) (contents l).entries ≡ false
-          unfolding plain_entry
-          unknown = (not_found l h (number_of x.tx) missed).known
-
-          good : Good (with_entries (include transaction_of (plain_entry x) (contents l).entries) (contents l))
+          pub admits : (r : Ledger) → Became (with_entries (include transaction_of (plain_entry x) (contents l).entries) (contents l)) r → Meets (after_admission ws (contents l)) [] [] (says 1 r)
           unfolding after_admission
-          good = rw plain (good-after (admission_refusal ws (contents l)) (contents l) o fits (step-good (admission ws) w (contents l) h.good))
-
-          word : IsOfWord (plain_entry x)
-          unfolding plain_entry admission_terms
-          word = rw same (every_get_d (Holds is_word) 0 3 ws refl w)
-
-          -- there is room for its pairs
-          pub nameable : Nameable l.issuers x l.local.0
-          unfolding index contents
-          nameable =
-              let pairs : index (with_entries (include transaction_of (plain_entry x) (contents l).entries) (contents l)) ≡ with_pairs l.local.0 x l.issuers =
-              index_of-include l.local.0 (plain_entry x) (contents l).entries word (good-words h.good) unknown
-              ∙ ap (include_all pair_key (pairs_of l.local.0 (plain_entry x))) (sym h.issuers.pairs) in
-              omega (arith, ap length pairs, index-size (with_entries (include transaction_of (plain_entry x) (contents l).entries) (contents l)) good)
-
-          pub admits : (k : ℕ) → k ≡ rank (below t) (keys_of l.roster) → (b : Roster) → Inserted l.roster k t b → (y : Issuers) → issuers.Holds (with_pairs l.local.0 x l.issuers) y →
-              (z : length (set l.entries (free_slot l.roster) x) ≡ 48) → Meets (after_admission ws (contents l)) [] [] (says 1 (with_parts l l.rebuilt b (set l.entries (free_slot l.roster) x) y l.departures z))
-          unfolding after_admission
-          admits k v b op y i z =
-              let taken =
-              taken_in l h k x b y missed (rw same v) free word (rw same op)
-              (record { pairs = i.pairs ∙ ap (include_all pair_key (pairs_of l.local.0 (plain_entry x))) h.issuers.pairs }) good z in
+          admits r b =
               passes (admission_refusal ws (contents l)) (contents l) o [] [] _ fits
-              (rw ((not_found l h t u).known, ← plain) (answers 1 _ _ _ taken refl))
+              (rw ((not_found l h t u).known, ← plain) (answers 1 _ _ _ b refl))

@@ -1,11 +1,14 @@
 // Admission: a committed transaction taken in.
 ghost use Rattle.std.specs.Prelude.{◌≡◌, [], IfOk};
+ghost use Rattle.lists.specs.Lists.{include};
+ghost use Rattle.rules.specs.Plain.{transaction_of, with_entries};
 ghost use Rattle.rules.specs.Calls.{after_admission};
+ghost use Rattle.entry.specs.Entry.{plain_entry};
 ghost use Rattle.store.specs.Issuers.{Holds};
-ghost use Rattle.ledger.specs.Contents.{Held, contents};
+ghost use Rattle.ledger.specs.Contents.{Held, Became, contents};
 ghost use Rattle.ledger.specs.Meets.{Meets, saying};
 ghost use Rattle.types.specs.Refusals.{refused_in};
-ghost use Rattle.calls.specs.Naming.{Nameable, with_pairs};
+ghost use Rattle.calls.specs.Naming.{Nameable, with_pairs, Enters};
 ghost use Rattle.calls.specs.Refusals.{words_refusal};
 
 use entry::Entry;
@@ -26,6 +29,18 @@ fn name_issued(issuers: &mut Issuers, e: &Entry, local: Shard)
             issuers.name(record_key(e.ids[i]), e.tx);
         }
     }
+}
+
+// The entry of a transaction that is not owed put in: it lies in the first slot that is free, and is named under the records that it issued.
+pub fn take_in(ledger: &mut Ledger, e: &Entry)
+    requires { Enters e.now ledger.old }
+    ensures { Became (with_entries (include transaction_of (plain_entry e.now) (contents ledger.old).entries) (contents ledger.old)) ledger.new }
+{
+    let slot = ledger.roster.slots[ledger.roster.len];
+    let k = ledger.roster.rank(e.tx);
+    ledger.roster.insert_at(k, e.tx);
+    name_issued(&mut ledger.issuers, e, ledger.local);
+    ledger.entries[slot] = *e;
 }
 
 // The words of an admission, by the table.
@@ -55,16 +70,11 @@ pub fn register_committed(ledger: &mut Ledger, words: &[u64]) -> Said
     let None = ledger.roster.find(tx) else {
         return Ok([0; 3]);
     };
-    let len = ledger.roster.len;
-    let is_full = 48 <= len;
+    let is_full = 48 <= ledger.roster.len;
     if is_full {
         return Err(Refusal::EntriesFull);
     }
     let e = admission.entry(ledger.local);
-    let slot = ledger.roster.slots[len];
-    let k = ledger.roster.rank(tx);
-    ledger.roster.insert_at(k, tx);
-    name_issued(&mut ledger.issuers, &e, ledger.local);
-    ledger.entries[slot] = e;
+    take_in(ledger, &e);
     Ok([1, 0, 0])
 }

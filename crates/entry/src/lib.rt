@@ -28,6 +28,9 @@ pub enum Certificate {
 }
 
 #[derive(Clone, Copy, PartialEq, Eq)]
+pub struct UnknownPart;
+
+#[derive(Clone, Copy, PartialEq, Eq)]
 pub struct UnknownCertificate;
 
 // A cell read absent on a shard: by shard and then key.
@@ -124,6 +127,26 @@ impl Part {
         ensures { result ≡ is_settling (plain_part self) }
     {
         matches!(self, Part::Leg | Part::Remainder)
+    }
+}
+
+// By the number that comes in words.
+impl TryFrom<u64> for Part {
+    ghost use Rattle.rules.specs.Plain.{part_number};
+    ghost use Rattle.entry.specs.Entry.{plain_part};
+
+    type Error = UnknownPart;
+
+    fn try_from(number: u64) -> Result<Part, UnknownPart>
+        ensures { MatchResult result (λ p. part_number (plain_part p) ≡ number) (λ _. 3 < number) }
+    {
+        match number {
+            0 => Ok(Part::Whole),
+            1 => Ok(Part::Leg),
+            2 => Ok(Part::Core),
+            3 => Ok(Part::Remainder),
+            _ => Err(UnknownPart),
+        }
     }
 }
 

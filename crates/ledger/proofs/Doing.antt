@@ -8,8 +8,7 @@ use Rattle.lists.specs.Lists.{through, tally}
 use Rattle.lists.proofs.Items.{Through, before_first, one_more, after_last}
 use Rattle.rules.specs.Plain.{Plain}
 use Rattle.ledger.specs.declared.Ledger.{Ledger}
-use Rattle.ledger.specs.Contents.{contents, Held}
-use Rattle.ledger.proofs.Lift.{Became}
+use Rattle.ledger.specs.Contents.{contents, Held, Became}
 
 -- each item changes the plain ledger by f and counts by n
 pub record Doing {A : Type 0} (f : A → Plain → Plain) (n : A → Plain → ℕ) (items : List A) (l₀ l : Ledger) (count i : ℕ) : Type 0 where

@@ -34,13 +34,8 @@ use Rattle.store.specs.declared.departures.Departures.{Departures}
 use Rattle.store.specs.Departures as departures
 use Rattle.store.specs.Departures.{on_file}
 use Rattle.ledger.specs.declared.Ledger.{Ledger}
-use Rattle.ledger.specs.Contents.{no_entry, entry_in, entries_of, contents, Held, with_parts, with_count, storing, slot_at, lying_at}
+use Rattle.ledger.specs.Contents.{no_entry, entry_in, entries_of, contents, Held, Became, with_parts, with_count, storing, slot_at, lying_at}
 use Rattle.ledger.proofs.Places.{slots_length, order, placed, ranked, found_at, not_found}
-
--- r is in use, and has the contents p
-pub record Became (p : Plain) (r : Ledger) : Type 0 where
-  pub held : Held r
-  pub holds : contents r ≡ p
 
 -- roster, slots and index that hold these entries
 pub record Rows (local : ℕ) (rows : List plain.Entry) (r : Roster) (es : List Entry) (x : Issuers) : Type 0 where

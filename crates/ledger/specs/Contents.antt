@@ -49,6 +49,11 @@ pub record Held (l : Ledger) : Type 0 where
   pub issuers : issuers.Holds (index (contents l)) l.issuers
   pub good : Good (contents l)
 
+-- r is in use, and has the contents p
+pub record Became (p : Plain) (r : Ledger) : Type 0 where
+  pub held : Held r
+  pub holds : contents r ≡ p
+
 -- the ledger with other parts: running count, roster, as many entries, index and departures
 abbrev pub with_parts : Ledger → ℕ → Roster → (es : List Entry) → Issuers → Departures → length es ≡ 48 → Ledger
 with_parts l n r es x d s =

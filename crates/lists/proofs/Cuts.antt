@@ -75,40 +75,49 @@ total_split f zero s = omega arith
 total_split f (suc i) [] = refl
 total_split f (suc i) (x ∷ s) = omega (arith, total_split f i s)
 
--- rising: one number above the one before it, and so on
+-- rising by key: one above the one before it, and so on
 
-module _ (x y : ℕ) (l : List ℕ) where
-  above_lower : ltb x y ≡ true → (m : List ℕ) → above_all self y m ≡ true → above_all self x m ≡ true
-  above_lower t [] h = refl
-  above_lower t (z ∷ m) h =
-      let lt : y < z = ltb-true y z (and_left (ltb y z) (above_all self y m) h) in
-      and_both (ltb x z) (above_all self x m) (lt-ltb x z (omega (arith, ltb-true x y t))) (above_lower t m (and_right (ltb y z) (above_all self y m) h))
+module _ {A : Type 0} (key : A → ℕ) where
+  module _ (x y : A) (l : List A) where
+    above_lower : ltb (key x) (key y) ≡ true → (m : List A) → above_all key (key y) m ≡ true → above_all key (key x) m ≡ true
+    above_lower t [] h = refl
+    above_lower t (z ∷ m) h =
+        let lt : key y < key z = ltb-true (key y) (key z) (and_left (ltb (key y) (key z)) (above_all key (key y) m) h) in
+        and_both (ltb (key x) (key z)) (above_all key (key x) m) (lt-ltb (key x) (key z) (omega (arith, ltb-true (key x) (key y) t))) (above_lower t m (and_right (ltb (key y) (key z)) (above_all key (key y) m) h))
 
-  pub rises_two : ascending self (x ∷ y ∷ l) ≡ ltb x y && ascending self (y ∷ l)
-  rises_two = go (ltb x y) refl (above_all self y l) refl
-    where
-      go : (b : Bool) → ltb x y ≡ b → (c : Bool) → above_all self y l ≡ c →
-          b && above_all self x l && (c && ascending self l) ≡ b && (c && ascending self l)
-      go true t true u = rw (above_lower t l u)
-      go true t false u = and_false (above_all self x l)
-      go false t c u = refl
+    pub rises_two : ascending key (x ∷ y ∷ l) ≡ ltb (key x) (key y) && ascending key (y ∷ l)
+    rises_two = go (ltb (key x) (key y)) refl (above_all key (key y) l) refl
+      where
+        go : (b : Bool) → ltb (key x) (key y) ≡ b → (c : Bool) → above_all key (key y) l ≡ c →
+            b && above_all key (key x) l && (c && ascending key l) ≡ b && (c && ascending key l)
+        go true t true u = rw (above_lower t l u)
+        go true t false u = and_false (above_all key (key x) l)
+        go false t c u = refl
 
--- each and the next compared: what the library answers
+  -- each and the next compared: what the library answers
 
-rises_each : (s : List ℕ) → AllAdjacentBelow (λ x y. true ≡ ltb x y) s (length s) → ascending self s ≡ true
-rises_each [] h = refl
-rises_each (x ∷ []) h = refl
-rises_each (x ∷ y ∷ l) h = rises_two x y l ∙ and_both (ltb x y) (ascending self (y ∷ l)) (sym (h 0 x (omega arith))) (rises_each (y ∷ l) (λ k d q. h (suc k) d (omega arith) ∙ ap (λ j. ltb (get_or (y ∷ l) k d) (get_or (x ∷ y ∷ l) j d)) (suc-add k 1)))
+  rises_each : (s : List A) → AllAdjacentBelow (λ x y. true ≡ ltb (key x) (key y)) s (length s) → ascending key s ≡ true
+  rises_each [] h = refl
+  rises_each (x ∷ []) h = refl
+  rises_each (x ∷ y ∷ l) h =
+      rises_two x y l
+      ∙ and_both (ltb (key x) (key y)) (ascending key (y ∷ l)) (sym (h 0 x (omega arith)))
+      (rises_each (y ∷ l) (λ k d q. h (suc k) d (omega arith) ∙ ap (λ j. ltb (key (get_or (y ∷ l) k d)) (key (get_or (x ∷ y ∷ l) j d))) (suc-add k 1)))
 
-rises_not : (s : List ℕ) (k : ℕ) → k + 1 < length s → ltb (get_or s k 0) (get_or s (k + 1) 0) ≡ false → ascending self s ≡ false
-rises_not [] k h t = absurd (omega arith)
-rises_not (x ∷ []) k h t = absurd (omega arith)
-rises_not (x ∷ y ∷ l) zero h t = rises_two x y l ∙ ap (λ b. b && ascending self (y ∷ l)) t
-rises_not (x ∷ y ∷ l) (suc k) h t = rises_two x y l ∙ ap (λ b. ltb x y && b) (rises_not (y ∷ l) k (omega arith) (sym (ap (λ j. ltb (get_or (y ∷ l) k 0) (get_or (x ∷ y ∷ l) j 0)) (suc-add k 1)) ∙ t)) ∙ and_false (ltb x y)
+  rises_not : (d : A) (s : List A) (k : ℕ) → k + 1 < length s → ltb (key (get_or s k d)) (key (get_or s (k + 1) d)) ≡ false → ascending key s ≡ false
+  rises_not d [] k h t = absurd (omega arith)
+  rises_not d (x ∷ []) k h t = absurd (omega arith)
+  rises_not d (x ∷ y ∷ l) zero h t = rises_two x y l ∙ ap (λ b. b && ascending key (y ∷ l)) t
+  rises_not d (x ∷ y ∷ l) (suc k) h t =
+      rises_two x y l
+      ∙ ap (λ b. ltb (key x) (key y) && b)
+      (rises_not d (y ∷ l) k (omega arith) (sym (ap (λ j. ltb (key (get_or (y ∷ l) k d)) (key (get_or (x ∷ y ∷ l) j d))) (suc-add k 1)) ∙ t))
+      ∙ and_false (ltb (key x) (key y))
 
-pub rises_by : (s : List ℕ) (r : Bool) → IsAllAdjacentAnswer (λ x y b. b ≡ ltb x y) s r → r ≡ ascending self s
-rises_by s true h = sym (rises_each s h)
-rises_by s false h = sym (rises_not s h.0 h.1 (sym (h.2 0)))
+  pub rises_by : (s : List A) (r : Bool) → IsAllAdjacentAnswer (λ x y b. b ≡ ltb (key x) (key y)) s r → r ≡ ascending key s
+  rises_by s true h = sym (rises_each s h)
+  rises_by [] false h = absurd (omega (arith, h.1))
+  rises_by (x ∷ s) false h = sym (rises_not x (x ∷ s) h.0 h.1 (sym (h.2 x)))
 
 -- what stands in a part, and how much
 

@@ -7,6 +7,7 @@ use Rattle.rules.specs.Plain.{Edge, Entry, Plain, is_core, is_settling, transact
 use Rattle.rules.specs.Words.{transaction_words}
 use Rattle.rules.specs.Index.{index, names}
 use Rattle.rules.specs.Prune.{over, validity_horizon}
+use Rattle.rules.specs.Snapshot.{snapshot_words}
 use Rattle.rules.specs.Outcome.{Outcome, done, unless, ◌gives◌then◌, too_short, yes_no}
 
 -- A list answers how many items it wrote; 9 comes after every other refusal.
@@ -157,6 +158,7 @@ pub data Reading : Type 0 where
   abandonment covered departed executed reaches_beyond : (transaction : ℕ) → Reading
   issued_by : (record_key transaction : ℕ) → Reading
   local rebuilt : Reading
+  take_snapshot : (room : ℕ) → Reading
 
 abbrev pub question : ℕ → ℕ → ℕ → ℕ → ℕ → Question
 question t shard key at end = record { transaction = t; shard = shard; key = key; at = at; end = end }
@@ -182,3 +184,4 @@ read (reaches_beyond t) p = lookup (λ e. filled (remote p.local e.terms)) t p
 read (issued_by r t) p = done (yes_no (names (index p) r t) ∷ []) p
 read local p = done (p.local ∷ []) p
 read rebuilt p = done (p.rebuilt ∷ []) p
+read (take_snapshot room) p = listing 0 room single (snapshot_words p) p

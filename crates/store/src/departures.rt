@@ -39,7 +39,7 @@ impl Departure {
 }
 
 impl Departures {
-    ghost use Rattle.std.specs.Prelude.{[]};
+    ghost use Rattle.std.specs.Prelude.{[], ◌∷◌, ◌++◌};
     ghost use Rattle.lists.specs.Lists.{change, keep_by};
     ghost use Rattle.lists.specs.Arrays.{place, rank, insert_at};
     ghost use Rattle.rules.specs.Calls.{departed, stamped};
@@ -77,6 +77,14 @@ impl Departures {
         ensures { Holds (insert_at k (plain_departure d) (on_file self.old)) self.new }
     {
         self.front.insert_at(k, d);
+    }
+
+    // A departure of a shard above all on file put behind them.
+    pub fn push(&mut self, d: Departure)
+        requires { (self.old.front.len < 32) × Ascending shard_of (on_file self.old ++ plain_departure d ∷ []) }
+        ensures { Holds (on_file self.old ++ plain_departure d ∷ []) self.new }
+    {
+        self.front.push(d);
     }
 
     // The shard's departure put on file with its cut, unless one stands already: the first cut holds. This and a stamp are done in place, so

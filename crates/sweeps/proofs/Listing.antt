@@ -32,10 +32,10 @@ use Rattle.store.specs.Roster.{keys_of, Retained}
 use Rattle.store.specs.Issuers as issuers
 use Rattle.store.specs.Issuers.{pairs_in}
 use Rattle.ledger.specs.declared.Ledger.{Ledger}
-use Rattle.ledger.specs.Contents.{entries_of, contents, Held, with_parts, lying_at}
+use Rattle.ledger.specs.Contents.{entries_of, contents, Held, with_parts, lying_at, Became}
 use Rattle.ledger.specs.Meets.{Meets, says, says_no}
 use Rattle.ledger.proofs.Places.{entries-length, entry_at}
-use Rattle.ledger.proofs.Lift.{Became, with_rows, kept-rows}
+use Rattle.ledger.proofs.Lift.{with_rows, kept-rows}
 use Rattle.ledger.proofs.Meeting.{refuses, passes, good-after}
 use Rattle.sweeps.specs.declared.closes.Closing.{Closing}
 use Rattle.store.specs.Leaving.{unnamed_by}

@@ -40,10 +40,10 @@ use Rattle.judge.specs.declared.verdicts.Verdict.TheVariants.{Stands, Falls, Rep
 use Rattle.judge.specs.View.{Shows}
 use Rattle.judge.specs.Verdict.{Says, Faces}
 use Rattle.ledger.specs.declared.Ledger.{Ledger}
-use Rattle.ledger.specs.Contents.{entries_of, contents, Held, with_parts, lying_at}
+use Rattle.ledger.specs.Contents.{entries_of, contents, Held, with_parts, lying_at, Became}
 use Rattle.ledger.specs.Meets.{Meets, saying, says_no}
 use Rattle.ledger.proofs.Places.{entries-length, entry_at}
-use Rattle.ledger.proofs.Lift.{Became, became, kept-rows}
+use Rattle.ledger.proofs.Lift.{became, kept-rows}
 use Rattle.ledger.proofs.Meeting.{refuses, passes}
 use Rattle.sweeps.specs.declared.prune.Pruning.{Pruning}
 use Rattle.store.specs.Leaving.{unnamed_by}

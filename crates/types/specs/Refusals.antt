@@ -2,7 +2,7 @@
 use Rattle.std.specs.Prelude.{ℕ, Ok, Err}
 use Rattle.std.specs.Prelude.{Result}
 use Rattle.types.specs.declared.refusal.Refusal.{Refusal}
-use Rattle.types.specs.declared.refusal.Refusal.TheVariants.{NoLocal, NoSpan, NoTime, NoShard, Malformed, EntriesFull, AbsencesFull, DeparturesFull, ListShort, UnknownKind, NoBundle}
+use Rattle.types.specs.declared.refusal.Refusal.TheVariants.{NoLocal, NoSpan, NoTime, NoShard, Malformed, EntriesFull, AbsencesFull, DeparturesFull, ListShort, UnknownKind, NoBundle, NoSnapshot, NeverWritten}
 
 abbrev pub refusal_number : Refusal → ℕ
 refusal_number NoLocal = 1
@@ -16,6 +16,8 @@ refusal_number DeparturesFull = 8
 refusal_number ListShort = 9
 refusal_number UnknownKind = 10
 refusal_number NoBundle = 11
+refusal_number NoSnapshot = 12
+refusal_number NeverWritten = 13
 
 abbrev pub refused_in : {A : Type 0} → Result A Refusal → ℕ
 refused_in (Ok x) = 0

@@ -20,6 +20,9 @@ pub enum Refusal {
     // Reading a bundle: an item's kind is none of the five, or its words are no such number of items.
     UnknownKind = 10,
     NoBundle = 11,
+    // Reading a snapshot: words of no snapshot's form, or words that are written of no ledger.
+    NoSnapshot = 12,
+    NeverWritten = 13,
 }
 
 impl Refusal {

@@ -82,14 +82,9 @@ formed_of ws h =
       known = (each_of (code_tests ws) k).1.0;
     }
 
--- the first tests in the code's words
-pub admission_is : (ws : List ℕ) → admission_formed ws ≡
-    leb 9 (length ws) && (leb (word 0 ws) 8 && (leb (word 1 ws) 8 && (leb (word 2 ws) 8 && all_of (size_tests ws ++ code_tests ws ++ order_tests ws))))
-unfolding admission_formed
-admission_is ws = refl
-
-pub unreached : (ws : List ℕ) → length ws < destinations_at ws → admission_formed ws ≡ false
-unreached ws h = sym (fails (admission_formed ws) (λ t. omega (arith, (formed_of ws t).exact)))
+-- no parts can be read of words of no form
+pub not_sized : (ws : List ℕ) → (Sized ws → ⊥) → admission_formed ws ≡ false
+not_sized ws h = sym (fails (admission_formed ws) (λ t. h (formed_of ws t).sized))
 
 -- the words taken apart
 module _ (ws r c i f k n t : List ℕ) (s : Split ws r c i f k n t) where

@@ -21,7 +21,7 @@ pub struct Admission<'a> {
     pub ghost formed: { admission_formed parts.words.now ≡ true },
 }
 
-#[tactic(auto, unfolding(rules::specs::Words::admission_timed, rules::specs::Words::admission_placed, rules::specs::Words::admission_terms))]
+#[tactic(auto, using(crate::proofs::Forms::not_sized), unfolding(rules::specs::Words::admission_timed, rules::specs::Words::admission_placed, rules::specs::Words::admission_terms))]
 impl<'a> Admission<'a> {
     pub fn read(words: &'a [u64]) -> Option<Admission<'a>>
         ensures { MatchOption result (admission_formed words.now ≡ false) (λ a. a.parts.words.now ≡ words.now) }

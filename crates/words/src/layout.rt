@@ -1,7 +1,7 @@
 // The parts of an admission's words.
-ghost use Rattle.std.specs.Prelude.{◌≡◌, false, MatchOption};
+ghost use Rattle.std.specs.Prelude.{◌≡◌, MatchOption};
 ghost use Rattle.rules.specs.Words.{admission_formed};
-ghost use Rattle.words.specs.Admission.{Split};
+ghost use Rattle.words.specs.Admission.{Sized, Split};
 
 use lists::slices::{all_within, lists_rise, part, rises, size_at, total};
 
@@ -20,10 +20,9 @@ pub struct Parts<'a> {
 }
 
 impl<'a> Parts<'a> {
-    #[tactic(auto, using(crate::proofs::Forms::admission_is, crate::proofs::Forms::unreached))]
     // None where the sizes that come first are not there or over their limits, or the words do not reach to the destinations.
     pub fn of(words: &'a [u64]) -> Option<Parts<'a>>
-        ensures { MatchOption result (admission_formed words.now ≡ false) (λ p. p.words.now ≡ words.now) }
+        ensures { MatchOption result (Sized words.now → ⊥) (λ p. p.words.now ≡ words.now) }
     {
         let r = size_at(words, 0);
         let c = size_at(words, 1);

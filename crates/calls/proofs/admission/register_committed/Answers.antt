@@ -8,7 +8,7 @@ use Rattle.rules.specs.Words.{admission_terms}
 use Rattle.store.specs.Roster.{keys_of, is, below}
 use Rattle.store.proofs.Rosters.{free_slot_lem}
 use Rattle.words.proofs.Forms.{all_words_lem}
-use Rattle.calls.proofs.Admitting.{turned_away, skipped, full, nameable, admits}
+use Rattle.calls.proofs.Admitting.{turned_away, skipped, full, enters, admits}
 use Rattle.calls.proofs.admission.register_committed.Goals as goal
 
 -- what the roster says of the transaction it says of the words' own
@@ -31,24 +31,15 @@ returns-then-is_full c =
     full c.args.ledger.now c.requires c.args.words.now c.in_ok-admission.ensures.refused
     (says _ _ _ _ _ c.find.ensures c.transaction-tx.ensures c.in_ok-admission.ensures.read _ c.in-None.is) (search rules)
 
-pub insert_at-requires : goal.insert_at-requires
-insert_at-requires c =
-    let k = c.args.ledger.now.roster in
-    (omega (arith, c.rank-k.ensures, rank_le (below c.transaction-tx.result.0) (keys_of k), length-take-le k.len k.keys (omega (arith, k.room, k.lengths.0))), omega arith)
-
-pub name_issued-requires : goal.name_issued-requires
-name_issued-requires c =
-    nameable c.args.ledger.now c.requires c.args.words.now c.in_ok-admission.ensures.refused
+pub take_in-requires : goal.take_in-requires
+take_in-requires c =
+    enters c.args.ledger.now c.requires c.args.words.now c.in_ok-admission.ensures.refused
     (says _ _ _ _ _ c.find.ensures c.transaction-tx.ensures c.in_ok-admission.ensures.read _ c.in-None.is) (omega arith)
     c.entry-e.result (rw c.in_ok-admission.ensures.read at c.entry-e.ensures) (all_words_lem c.args.words.now (λ i. omega (arith, c.type_inv.words i)))
-
-pub bounds-ledger-slot : goal.bounds-ledger-slot
-bounds-ledger-slot c = (free_slot_lem c.args.ledger.now.roster (omega arith)).0
 
 pub returns : goal.returns
 returns c =
-    let t = c.transaction-tx.ensures ∙ ap (λ l. (admission_terms l).transaction) c.in_ok-admission.ensures.read in
     admits c.args.ledger.now c.requires c.args.words.now c.in_ok-admission.ensures.refused
     (says _ _ _ _ _ c.find.ensures c.transaction-tx.ensures c.in_ok-admission.ensures.read _ c.in-None.is) (omega arith)
     c.entry-e.result (rw c.in_ok-admission.ensures.read at c.entry-e.ensures) (all_words_lem c.args.words.now (λ i. omega (arith, c.type_inv.words i)))
-    c.rank-k.result (c.rank-k.ensures ∙ ap (λ v. rank (below v) (keys_of c.args.ledger.now.roster)) t) _ (rw t at c.insert_at.ensures) _ c.name_issued.ensures _
+    _ c.take_in.ensures
