@@ -93,7 +93,7 @@ impl Absence {
         self == x
     }
 
-    fn is_below(self, x: Absence) -> bool
+    pub fn is_below(self, x: Absence) -> bool
         ensures { result ≡ below (plain_absence x) (plain_absence self) }
     {
         self < x

@@ -14,6 +14,7 @@ pub mod Picked
 pub mod Room
 pub mod Zip
 pub mod Cuts
+pub mod Rows
 pub mod Counting
 pub mod Sets
 pub mod Std

@@ -2,11 +2,12 @@
 -- Assumes nothing.
 use Prim.Native.Nat.{ℕ, zero, suc, ◌<◌}
 use mathlib.Core.Path.{◌≡◌, refl, ap}
-use mathlib.Core.Bool.{Bool, true, false, cond}
+use mathlib.Core.Bool.{Bool, true, false, cond, ◌&&◌}
 use mathlib.Core.List.{List, [], ◌∷◌, map}
 use native.Mathlib.Omega.{arith}
 use lib.ListN.{length, get_or, set}
-use Rattle.lists.specs.Lists.{change_if}
+use lib.Dec.{ltb}
+use Rattle.lists.specs.Lists.{change_if, all, above_all, ascending}
 
 pub map-set : {A B : Type 0} (g : A → B) (l : List A) (i : ℕ) (x : A) → map g (set l i x) ≡ set (map g l) i (g x)
 map-set g [] i x = refl
@@ -29,6 +30,19 @@ map-change_if {A} {B} g p f c (x ∷ l) = rw (map-change_if g p f c l) (ap (λ y
     go false = refl
 
 -- what stands at a place, put back there
+-- a test of each and the order by a key, of what f makes of them
+pub all_map : {A B : Type 0} (g : A → B) (p : B → Bool) (l : List A) → all (λ x. p (g x)) l ≡ all p (map g l)
+all_map g p [] = refl
+all_map g p (x ∷ l) = ap (λ b. p (g x) && b) (all_map g p l)
+
+above_map : {A B : Type 0} (g : A → B) (key : B → ℕ) (k : ℕ) (l : List A) → above_all (λ x. key (g x)) k l ≡ above_all key k (map g l)
+above_map g key k [] = refl
+above_map g key k (x ∷ l) = ap (λ b. ltb k (key (g x)) && b) (above_map g key k l)
+
+pub ascending_map : {A B : Type 0} (g : A → B) (key : B → ℕ) (l : List A) → ascending (λ x. key (g x)) l ≡ ascending key (map g l)
+ascending_map g key [] = refl
+ascending_map g key (x ∷ l) = rw (above_map g key (key (g x)) l, ascending_map g key l)
+
 pub put_back : {A : Type 0} (l : List A) (i : ℕ) (d : A) → set l i (get_or l i d) ≡ l
 put_back [] i d = refl
 put_back (x ∷ l) zero d = refl

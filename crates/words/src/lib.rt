@@ -5,7 +5,7 @@
 pub mod admission;
 pub mod bundle;
 pub mod finalization;
-mod layout;
+pub mod layout;
 pub mod record;
 mod shards;
 mod taken;

@@ -1,0 +1,77 @@
+-- The form of an entry's words, from that of its admission and that of its history.
+-- Assumes nothing.
+use Prim.Native.Nat.{ℕ, ◌+◌, ◌-◌, ◌≤◌, ◌<◌}
+use mathlib.Core.Path.{◌≡◌, sym, ap, ◌∙◌}
+use mathlib.Core.Bool.{true, false, true≢false}
+use mathlib.Core.List.{List, [], ◌∷◌}
+use native.Mathlib.Omega.{arith}
+use lib.Dec.{eqb, leb}
+use lib.ListN.{length, length-drop}
+use borrow.Author.Tests.{leb-true, le-leb, eqb-true, eq-eqb}
+use Rattle.lists.specs.Lists.{all, total, self}
+use Rattle.lists.proofs.Tests.{same_test}
+use Rattle.lists.proofs.Keep.{each_of}
+use Rattle.lists.proofs.Cuts.{fails}
+use Rattle.rules.specs.Words.{within, route_count, core_count, edge_count, sizes, destinations_at}
+use Rattle.rules.specs.Snapshot.{admission_length, history_of, absence_count, mark_count, history_length, entry_formed}
+use Rattle.words.specs.Admission.{Sized, Split}
+use Rattle.snapshots.specs.Form.{Measured, history_formed}
+
+-- an admission's words taken apart: whether its end can be told, and where it is
+module _ (ws us r c i f k n t : List ℕ) (s : Split us r c i f k n t) (e : us ≡ ws) where
+  pub sizes_over : all (λ m. leb m 4) n ≡ false → Measured ws → ⊥
+  sizes_over h m = true≢false (sym (rw s.sizes (rw e m.few)) ∙ h)
+
+  pub ends_early : length t < total self n → Measured ws → ⊥
+  ends_early h m =
+      let r : admission_length us ≤ length us = rw e m.room in
+      omega (arith, h, r, ap length s.to, length-drop (destinations_at us) us, ap (total self) s.sizes, s.sized.room)
+
+  pub measured : all (λ m. leb m 4) n ≡ true → total self n ≤ length t → Measured ws × (length ws - length t + total self n ≡ admission_length ws)
+  measured h b =
+      let many : total self n ≡ total self (sizes us) = ap (total self) s.sizes in
+      let room : length t + destinations_at us ≡ length us = omega (arith, ap length s.to, length-drop (destinations_at us) us, s.sized.room) in
+      rw (← e)
+      (
+        record { sized = s.sized; few = rw s.sizes at h; room = omega (arith, many, room) },
+        omega (arith, many, room)
+      )
+
+pub entry_measured : (ws : List ℕ) → entry_formed ws ≡ true → Measured ws
+unfolding entry_formed
+entry_measured ws h =
+    let hs = history_of ws in
+    let t = each_of (
+      leb (route_count ws) 8 ∷ leb (core_count ws) 8 ∷ leb (edge_count ws) 8 ∷ within 4 (sizes ws) ∷ leb (absence_count hs) 8 ∷ leb (mark_count hs) 8 ∷ eqb (length ws) (admission_length ws + history_length hs) ∷ []
+    ) h in
+    let exact = eqb-true (length ws) (admission_length ws + history_length hs) t.1.1.1.1.1.1.0 in
+    record {
+      sized =
+          record {
+            counted =
+                record {
+                  figures = omega (arith, exact);
+                  routes = leb-true (route_count ws) 8 t.0;
+                  core = leb-true (core_count ws) 8 t.1.0;
+                  edges = leb-true (edge_count ws) 8 t.1.1.0;
+                };
+            room = omega (arith, exact);
+          };
+      few = t.1.1.1.0;
+      room = omega (arith, exact);
+    }
+
+pub unmeasured : (ws : List ℕ) → (Measured ws → ⊥) → false ≡ entry_formed ws
+unmeasured ws h = fails (entry_formed ws) (λ t. h (entry_measured ws t))
+
+pub entry_rows : (ws : List ℕ) → Measured ws → history_formed (history_of ws) ≡ entry_formed ws
+unfolding entry_formed
+entry_rows ws m =
+    let hs = history_of ws in
+    let c = m.sized.counted in
+    let size : length hs + admission_length ws ≡ length ws = omega (arith, length-drop (admission_length ws) ws, m.room) in
+    let long : eqb (length hs) (history_length hs) ≡ eqb (length ws) (admission_length ws + history_length hs) =
+    same_test _ _
+    (λ q. eq-eqb _ _ (omega (arith, eqb-true (length hs) (history_length hs) q)))
+    (λ q. eq-eqb _ _ (omega (arith, eqb-true (length ws) (admission_length ws + history_length hs) q))) in
+    rw (le-leb (route_count ws) 8 c.routes, le-leb (core_count ws) 8 c.core, le-leb (edge_count ws) 8 c.edges, m.few, long)
