@@ -78,8 +78,8 @@ module _ (ws : List ℕ) (f : admission_formed ws ≡ true) where
       let three = zip_by-length {B = List ℕ} with (zip_by with (zip_by edge (part at n ws) (froms ws)) (kinds ws)) (destinations ws) (omega (arith, cut-length (sizes ws) (drop (destinations_at ws) ws))) in
       none_in (edges_in ws) n (omega arith)
 
-  pub whole-fits : (local a b c : ℕ) → a ≡ word 8 ws → b ≡ word 1 ws → c ≡ word 2 ws → eqb a 0 && (eqb b 0 && eqb c 0) ≡ part_fits whole local (decomposed ws) t
-  whole-fits local a b c p q r = rw (p, q, r, coreless, edgeless)
+  pub whole-fits : (local : ℕ) → eqb (decomposed ws) 0 && (eqb (core_count ws) 0 && eqb (edge_count ws) 0) ≡ part_fits whole local (decomposed ws) t
+  whole-fits local = rw (coreless, edgeless)
 
   module _ (local : ℕ) (e : Entry) (m : Means (admitted local ws) e) where
     part_is : (plain_entry e).part ≡ cond (eqb (decomposed ws) 0) whole (cond (has self local (core_in ws)) core leg)

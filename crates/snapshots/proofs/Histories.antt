@@ -27,11 +27,11 @@ pair_at ws i =
     }
 
 -- with one more put behind them
-pub one_more : {A : Type 0} (f : A → plain.Absence) (ws : List ℕ) (i : ℕ) (as bs : List A) (x : A) → bs ≡ as ++ (x ∷ []) → f x ≡ absence (word (5 + 2 * i) ws) (word (6 + 2 * i) ws) →
-    map f as ≡ map absence_in (rows 2 i (drop 5 ws)) → map f bs ≡ map absence_in (rows 2 (i + 1) (drop 5 ws))
-one_more f ws i as bs x e h v =
+pub one_more : {A : Type 0} (f : A → plain.Absence) (ws : List ℕ) (i : ℕ) (xs bs : List A) (x : A) → bs ≡ xs ++ (x ∷ []) → f x ≡ absence (word (5 + 2 * i) ws) (word (6 + 2 * i) ws) →
+    map f xs ≡ map absence_in (rows 2 i (drop 5 ws)) → map f bs ≡ map absence_in (rows 2 (i + 1) (drop 5 ws))
+one_more f ws i xs bs x e h v =
     ap (map f) e
-    ∙ map-append f as (x ∷ [])
+    ∙ map-append f xs (x ∷ [])
     ∙ ap (λ l. l ++ (f x ∷ [])) v
     ∙ ap (λ a. map absence_in (rows 2 i (drop 5 ws)) ++ (a ∷ [])) (h ∙ sym (pair_at ws i))
     ∙ sym (map-append absence_in (rows 2 i (drop 5 ws)) _)

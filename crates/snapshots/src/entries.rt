@@ -1,8 +1,8 @@
 // An entry read from a snapshot's words: its admission's, as an admission would be taken in, and its history put on it.
-ghost use Rattle.std.specs.Prelude.{◌≡◌, true, false, take, MatchOption};
+ghost use Rattle.std.specs.Prelude.{◌≡◌, ◌&&◌, true, false, eqb, take, MatchOption};
 ghost use Rattle.lists.specs.Lists.{all};
-ghost use Rattle.rules.specs.Plain.{issues};
-ghost use Rattle.rules.specs.Words.{decomposed, admission_terms, admission_formed};
+ghost use Rattle.rules.specs.Plain.{is_core, issues, owes};
+ghost use Rattle.rules.specs.Words.{core_count, edge_count, decomposed, admission_terms, admission_formed};
 ghost use Rattle.rules.specs.Entries.{admitted};
 ghost use Rattle.rules.specs.Snapshot.{part_fits, are_issued, marks_fit, entry_in, entry_formed, entry_sound};
 ghost use Rattle.entry.specs.Entry.{plain_part, plain_entry, Means};
@@ -14,16 +14,30 @@ use lists::slices::{rises, word_at};
 use types::{RecordKey, Shard};
 use words::admission::Admission;
 
+// An admission that is not decomposed and has neither core nor edges.
+fn is_bare(words: &[u64]) -> bool
+    ensures { result ≡ eqb (decomposed words.now) 0 && (eqb (core_count words.now) 0 && eqb (edge_count words.now) 0) }
+{
+    word_at(words, 8) == 0 && word_at(words, 1) == 0 && word_at(words, 2) == 0
+}
+
+#[tactic(auto, unfolding(entry::specs::Entry::plain_entry))]
+fn is_owing_core(e: &Entry, local: Shard) -> bool
+    ensures { result ≡ is_core (plain_entry e.now).part && owes local.0 (plain_entry e.now).terms }
+{
+    e.part.is_core() && e.owes(local)
+}
+
 // Whether the part goes with what the admission's words say: e is the entry that the admission takes in.
 fn part_fits(part: Part, words: &[u64], e: &Entry, local: Shard) -> bool
     requires { (admission_formed words.now ≡ true) × Means (admitted local.0 words.now) e.now }
     ensures { result ≡ part_fits (plain_part part) local.0 (decomposed words.now) (admission_terms words.now) }
 {
     match part {
-        Part::Whole => word_at(words, 8) == 0 && word_at(words, 1) == 0 && word_at(words, 2) == 0,
+        Part::Whole => is_bare(words),
         Part::Leg => e.part.is_leg(),
         Part::Core => e.part.is_core(),
-        Part::Remainder => e.part.is_core() && e.owes(local),
+        Part::Remainder => is_owing_core(e, local),
     }
 }
 
