@@ -43,10 +43,10 @@ pub const BREAKS: [(Broken, &str); 11] = [
 /// A snapshot's words, cut by its sizes.
 pub struct Snapshot<'a> {
     /// Local, V, C, L, count.
-    pub(crate) head: &'a [u64],
-    pub(crate) entries: Vec<Entry<'a>>,
+    pub head: &'a [u64],
+    pub entries: Vec<Entry<'a>>,
     /// Shard, cut, stamped, until each.
-    pub(crate) departures: Vec<&'a [u64]>,
+    pub departures: Vec<&'a [u64]>,
 }
 
 pub struct Entry<'a> {
@@ -54,6 +54,7 @@ pub struct Entry<'a> {
     pub admission: &'a [u64],
     /// Transaction, at, end, anchor, charge, decomposed.
     pub figures: &'a [u64],
+    pub routes: &'a [u64],
     pub core: &'a [u64],
     pub ids: &'a [u64],
     pub from: &'a [u64],
@@ -142,8 +143,7 @@ impl<'a> Rest<'a> {
         let c = self.size(CORE, Broken::Core)?;
         let e = self.size(EDGES, Broken::Edges)?;
         let figures = self.take(6)?;
-        self.take(r)?;
-        let core = self.take(c)?;
+        let [routes, core] = [self.take(r)?, self.take(c)?];
         let [ids, from, kinds] = [self.take(e)?, self.take(e)?, self.take(e)?];
         let mut to = Vec::new();
         for size in self.take(e)? {
@@ -158,6 +158,7 @@ impl<'a> Rest<'a> {
         Ok(Entry {
             admission,
             figures,
+            routes,
             core,
             ids,
             from,

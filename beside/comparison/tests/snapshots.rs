@@ -1,0 +1,146 @@
+//! Snapshots, tried on the Rust: what was written is read back whole, a restored ledger goes on as the one that was written, and the reader
+//! takes exactly those words that some calls reach.
+
+use comparison::bundles::contents;
+use comparison::image::{Entry, Image, written};
+use comparison::scripts::{Names, line, script};
+use reference::{Book, Runner};
+
+const SEED: u64 = 80;
+const SCRIPTS: u64 = 1500;
+
+/// Each line of the scripts of this seed, with the runner before it.
+fn each_line(scripts: u64, mut see: impl FnMut(&Runner, &[u8], u64)) {
+    let names = Names::all();
+    for index in 0..scripts {
+        let text = script(SEED, index, &names).text;
+        let mut runner = Runner::default();
+        for call in text.split(|byte| *byte == b'\n') {
+            see(&runner, call, index);
+            if !runner.take(call, &mut Vec::new()) {
+                break;
+            }
+        }
+    }
+}
+
+/// The status of the call, and the ledger after it.
+fn made(name: &str, numbers: &[u64], book: &Book) -> (u64, Book) {
+    let mut runner = Runner::default();
+    runner.book = book.clone();
+    runner.take(line(name, numbers, None).as_bytes(), &mut Vec::new());
+    let status = runner.reply.expect("the line is a call").status;
+    (status, runner.book)
+}
+
+#[test]
+fn what_was_written_is_read_back() {
+    let mut tried = 0;
+    each_line(SCRIPTS / 3, |runner, _, index| {
+        let words = written(&runner.book);
+        let (status, book) = made("restore", &words, &Book::default());
+        assert_eq!(status, 0, "script {index}");
+        assert_eq!(contents(&book), contents(&runner.book), "script {index}");
+        assert_eq!(written(&book), words, "script {index}");
+        tried += 1;
+    });
+    assert!(tried > 10 * SCRIPTS, "{tried} tried");
+}
+
+/// The answers of a script, and of the same with the ledger put back from its snapshot before every eighth line.
+#[test]
+fn a_restored_ledger_goes_on_as_the_one_written() {
+    let names = Names::all();
+    for index in 0..SCRIPTS / 3 {
+        let text = script(SEED + 1, index, &names).text;
+        let [mut one, mut other] = [Runner::default(), Runner::default()];
+        let [mut answers, mut others] = [Vec::new(), Vec::new()];
+        for (place, call) in text.split(|byte| *byte == b'\n').enumerate() {
+            if place % 8 == 0 {
+                let words = written(&other.book);
+                (_, other.book) = made("restore", &words, &Book::default());
+            }
+            let goes_on = one.take(call, &mut answers);
+            assert_eq!(other.take(call, &mut others), goes_on);
+            if !goes_on {
+                break;
+            }
+        }
+        assert!(answers == others, "script {index}");
+        assert_eq!(contents(&one.book), contents(&other.book), "script {index}");
+    }
+}
+
+/// The calls that an entry's words ask for, as they stand, whether anything comes of them or not.
+fn calls_for(entry: &Entry) -> Vec<(&'static str, Vec<u64>)> {
+    let [transaction, at, end, anchor, charge, _] = entry.figures;
+    let mut calls = vec![("register_committed", entry.admission())];
+    if entry.part == 3 {
+        calls.push(("release_resolved", vec![1, 1, transaction, 1, transaction]));
+    }
+    calls.push(("certify", vec![transaction, entry.certificate]));
+    if entry.named != 0 {
+        let record = [1, entry.named, 0, transaction, at, end, anchor, charge];
+        calls.push(("record_abandonment", record.to_vec()));
+    }
+    for [shard, key] in &entry.absences {
+        calls.push(("record_absence", vec![transaction, *shard, *key]));
+    }
+    let mark = ["settled", "returned"][usize::from(entry.returned > 0)];
+    for record in &entry.marks {
+        calls.push((mark, vec![*record, transaction]));
+    }
+    calls
+}
+
+/// Whether calls from a making reach a ledger of which these words are written, but for the count: no more than a record rebuilds it can be
+/// any, since an entry that a record would rebuild can as well be admitted, certified and named.
+fn reached(image: &Image) -> bool {
+    let [_, _, _, _, count] = image.head;
+    let (status, mut book) = made("new", &image.head[..4], &Book::default());
+    let entries = image.entries.iter().flat_map(calls_for);
+    let departures = image.departures.iter();
+    let terminals = departures.map(|departure| ("record_terminal", departure.to_vec()));
+    for (name, numbers) in entries.chain(terminals) {
+        (_, book) = made(name, &numbers, &book);
+    }
+    let mut words = written(&book);
+    words[4] = count;
+    status == 0 && words == image.words()
+}
+
+#[test]
+fn the_reader_takes_exactly_what_calls_reach() {
+    let (mut taken, mut refused) = (0, 0);
+    each_line(SCRIPTS, |runner, call, index| {
+        if !call.starts_with(b"restore") {
+            return;
+        }
+        let mut runner_after = Runner::default();
+        runner_after.book = runner.book.clone();
+        if !runner_after.take(call, &mut Vec::new()) {
+            return;
+        }
+        let words = &runner_after.numbers;
+        let (status, book) = made("restore", words, &runner.book);
+        let expected = match Image::of(words) {
+            None => 12,
+            Some(image) if reached(&image) => 0,
+            Some(_) => 13,
+        };
+        let shown = String::from_utf8_lossy(call);
+        assert_eq!(status, expected, "script {index}: {shown}");
+        if status == 0 {
+            assert_eq!(written(&book), *words, "script {index}: {shown}");
+            taken += 1;
+        } else {
+            let none = contents(&Book::default());
+            assert_eq!(contents(&book), none, "script {index}: {shown}");
+            refused += 1;
+        }
+    });
+    assert!(
+        taken > 500 && refused > 500,
+        "{taken} taken, {refused} refused"
+    );
+}
