@@ -4,6 +4,7 @@
 use comparison::bundles::contents;
 use comparison::image::{Entry, Image, written};
 use comparison::scripts::{Names, line, script};
+use comparison::shorten::{shorten, thin};
 use reference::{Book, Runner};
 
 const SEED: u64 = 80;
@@ -142,5 +143,25 @@ fn the_reader_takes_exactly_what_calls_reach() {
     assert!(
         taken > 500 && refused > 500,
         "{taken} taken, {refused} refused"
+    );
+}
+
+/// What stood before a restore goes; of the snapshot one entry matters, and no departure.
+#[test]
+fn a_script_with_a_restore_is_shortened() {
+    let entries = "0 0 0 8 1 1 1 1 0 0 0 0 0 0 0 0 0 0 9 1000 1500 10 77 0 0 2 5 0 0 0";
+    let script = format!(
+        "new 4 100 50 200\nregister_committed 0 0 0 7 1 1 1 1 0\nforget 7\nrestore 4 100 50 200 0 2 1 15 15 {entries} 5 11 0 0\nlocal\nexecuted 9\n"
+    );
+    let yes = |text: &[u8]| {
+        let mut answers = Vec::new();
+        reference::run(text, &mut answers);
+        answers.ends_with(b"0 1\n") && text.ends_with(b"executed 9\n")
+    };
+    let short = thin(&shorten(script.as_bytes(), yes), yes);
+    let one = "0 0 0 9 1000 1500 10 77 0 0 2 5 0 0 0";
+    assert_eq!(
+        String::from_utf8_lossy(&short),
+        format!("restore 4 100 50 200 0 1 0 15 {one}\nexecuted 9\n")
     );
 }
