@@ -18,7 +18,7 @@ const SOME_WORDS: u64 = 4;
 
 /// Shares in percent: scripts with restores, whatever their profile; of these those that begin with one; and restores refused after which the
 /// ledger is put back.
-const RESTORING: u64 = 15;
+const RESTORING: u64 = 20;
 const BEGINNING: u64 = 20;
 const PUT_BACK: u64 = 85;
 

@@ -1,6 +1,8 @@
 //! Snapshots, tried on the Rust: what was written is read back whole, a restored ledger goes on as the one that was written, and the reader
 //! takes exactly those words that some calls reach.
 
+use std::collections::BTreeMap;
+
 use comparison::bundles::contents;
 use comparison::image::{Entry, Image, written};
 use comparison::scripts::{Names, line, script};
@@ -110,6 +112,47 @@ fn reached(image: &Image) -> bool {
     status == 0 && words == image.words()
 }
 
+fn expected(words: &[u64]) -> u64 {
+    match Image::of(words) {
+        None => 12,
+        Some(image) if reached(&image) => 0,
+        Some(_) => 13,
+    }
+}
+
+/// A snapshot with some of everything, the first that the instances restore: each word by itself made another, left out, put before another,
+/// and the words cut off there.
+#[test]
+fn every_word_in_turn_is_taken_or_refused_as_calls_reach() {
+    let text = include_str!("../../instances/snapshot.calls");
+    let call = text.lines().find(|line| line.starts_with("restore "));
+    let numbers = call.expect("one is restored").split(' ').skip(1);
+    let words: Vec<u64> = numbers
+        .map(|word| word.parse().expect("a number"))
+        .collect();
+    let mut came = BTreeMap::new();
+    for (at, &word) in words.iter().enumerate() {
+        let next = words[(at + 1) % words.len()];
+        let [above, below] = [word.wrapping_add(1), word.wrapping_sub(1)];
+        let others = [above, below, next, 0, 1, 2, 1 << 33, 1 << 48, u64::MAX];
+        let mut changed: Vec<Vec<u64>> = vec![words[..at].to_vec()];
+        changed.push([&words[..at], &words[at + 1..]].concat());
+        for other in others {
+            changed.push([&words[..at], &[other], &words[at + 1..]].concat());
+            changed.push([&words[..at], &[other], &words[at..]].concat());
+        }
+        for changed in changed {
+            let (status, _) = made("restore", &changed, &Book::default());
+            assert_eq!(status, expected(&changed), "word {at}: {changed:?}");
+            *came.entry(status).or_insert(0) += 1;
+        }
+    }
+    assert!(
+        came.len() == 3 && came.values().all(|many| *many > 300),
+        "{came:?}"
+    );
+}
+
 #[test]
 fn the_reader_takes_exactly_what_calls_reach() {
     let (mut taken, mut refused) = (0, 0);
@@ -124,11 +167,7 @@ fn the_reader_takes_exactly_what_calls_reach() {
         }
         let words = &runner_after.numbers;
         let (status, book) = made("restore", words, &runner.book);
-        let expected = match Image::of(words) {
-            None => 12,
-            Some(image) if reached(&image) => 0,
-            Some(_) => 13,
-        };
+        let expected = expected(words);
         let shown = String::from_utf8_lossy(call);
         assert_eq!(status, expected, "script {index}: {shown}");
         if status == 0 {
