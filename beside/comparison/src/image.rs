@@ -111,7 +111,7 @@ fn array<const N: usize>(words: &[u64]) -> [u64; N] {
 }
 
 /// The snapshot that the Rust writes of a ledger.
-pub fn written(book: &Book) -> Vec<u64> {
+pub fn snapshot_of(book: &Book) -> Vec<u64> {
     let (mut lent, mut said) = (vec![FILLER; MOST_LENT as usize], Vec::new());
     let given = Given {
         numbers: &[],

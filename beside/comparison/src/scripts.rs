@@ -168,12 +168,8 @@ impl<'a> Writer<'a> {
     fn begin_anew(&mut self) {
         if self.restores && self.random.percent(BEGINNING) {
             self.text.clear();
-            self.restore(&image::written(&self.runner.book));
+            self.line("restore", &image::snapshot_of(&self.runner.book), None);
         }
-    }
-
-    fn restore(&mut self, words: &[u64]) {
-        self.line("restore", words, None);
     }
 
     pub fn mix(&mut self) {
@@ -252,14 +248,16 @@ impl<'a> Writer<'a> {
         let Some((call, numbers)) = self.draw(name, breach, turn) else {
             return;
         };
-        if name == "restore" {
-            self.restore_any(&numbers);
-        } else if call.item > 0 {
+        let before = (name == "restore").then(|| image::snapshot_of(&self.runner.book));
+        if call.item > 0 {
             self.list_call(name, &numbers);
         } else {
             // The grammar lets any call be lent a list.
             let lent = self.random.percent(1).then_some(3);
             self.line(name, &numbers, lent);
+        }
+        if let Some(words) = before {
+            self.put_back(&words);
         }
         if matches!(name, "settled" | "returned") && self.random.percent(40) {
             self.mark_all(name, numbers[1]);
@@ -269,17 +267,12 @@ impl<'a> Writer<'a> {
         }
     }
 
-    /// Restore words that may be refused, and mostly put the ledger back where they are.
-    fn restore_any(&mut self, words: &[u64]) {
-        let before = image::written(&self.runner.book);
-        self.restore(words);
-        let refused = self
-            .runner
-            .reply
-            .as_ref()
-            .is_some_and(|reply| reply.status != 0);
+    /// After a restore that was refused: mostly put the ledger back, given as a snapshot.
+    fn put_back(&mut self, words: &[u64]) {
+        let last = self.runner.reply.as_ref();
+        let refused = last.is_some_and(|reply| reply.status != 0);
         if refused && self.random.percent(PUT_BACK) {
-            self.restore(&before);
+            self.line("restore", words, None);
         }
     }
 

@@ -6,7 +6,7 @@ use reference::{
     BREAKS, Book, Broken, DEPARTURES, ENTRIES, Entry, FAULTS, Fault, LAST_SHARD, Reply, Snapshot,
 };
 
-use crate::image::written;
+use crate::image::snapshot_of;
 
 /// What a restored ledger may hold.
 #[derive(Clone, Copy)]
@@ -87,7 +87,7 @@ impl Snapshots {
     /// Count a `snapshot` of the ledger.
     pub fn wrote(&mut self, reply: &Reply, book: &Book) {
         let room = reply.lent.len();
-        let needed = written(book).len();
+        let needed = snapshot_of(book).len();
         let how = match reply.status {
             0 if room == needed => Room::Exact,
             0 => Room::More,

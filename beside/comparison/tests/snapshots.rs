@@ -4,7 +4,7 @@
 use std::collections::BTreeMap;
 
 use comparison::bundles::contents;
-use comparison::image::{Entry, Image, written};
+use comparison::image::{Entry, Image, snapshot_of};
 use comparison::scripts::{Names, line, script};
 use comparison::shorten::{shorten, thin};
 use reference::{Book, Runner};
@@ -40,11 +40,11 @@ fn made(name: &str, numbers: &[u64], book: &Book) -> (u64, Book) {
 fn what_was_written_is_read_back() {
     let mut tried = 0;
     each_line(SCRIPTS / 3, |runner, _, index| {
-        let words = written(&runner.book);
+        let words = snapshot_of(&runner.book);
         let (status, book) = made("restore", &words, &Book::default());
         assert_eq!(status, 0, "script {index}");
         assert_eq!(contents(&book), contents(&runner.book), "script {index}");
-        assert_eq!(written(&book), words, "script {index}");
+        assert_eq!(snapshot_of(&book), words, "script {index}");
         tried += 1;
     });
     assert!(tried > 10 * SCRIPTS, "{tried} tried");
@@ -60,7 +60,7 @@ fn a_restored_ledger_goes_on_as_the_one_written() {
         let [mut answers, mut others] = [Vec::new(), Vec::new()];
         for (place, call) in text.split(|byte| *byte == b'\n').enumerate() {
             if place % 8 == 0 {
-                let words = written(&other.book);
+                let words = snapshot_of(&other.book);
                 (_, other.book) = made("restore", &words, &Book::default());
             }
             let goes_on = one.take(call, &mut answers);
@@ -107,7 +107,7 @@ fn reached(image: &Image) -> bool {
     for (name, numbers) in entries.chain(terminals) {
         (_, book) = made(name, &numbers, &book);
     }
-    let mut words = written(&book);
+    let mut words = snapshot_of(&book);
     words[4] = count;
     status == 0 && words == image.words()
 }
@@ -171,7 +171,7 @@ fn the_reader_takes_exactly_what_calls_reach() {
         let shown = String::from_utf8_lossy(call);
         assert_eq!(status, expected, "script {index}: {shown}");
         if status == 0 {
-            assert_eq!(written(&book), *words, "script {index}: {shown}");
+            assert_eq!(snapshot_of(&book), *words, "script {index}: {shown}");
             taken += 1;
         } else {
             let none = contents(&Book::default());

@@ -1,4 +1,5 @@
-//! A child module of the Rust's ledger: reads its private fields, and sets them only where a ledger is put together from a copy or a snapshot.
+//! A child module of the Rust's ledger: reads its private fields, and sets them only where a ledger is made of
+//! another, for a copy, or of a snapshot.
 
 use std::collections::{BTreeMap, BTreeSet};
 

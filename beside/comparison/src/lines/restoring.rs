@@ -2,7 +2,7 @@
 
 use super::Maker;
 use crate::damage::{aim, alter, fill, tear};
-use crate::image::written;
+use crate::image::snapshot_of;
 
 impl Maker<'_> {
     pub(super) fn snapshot(&mut self) -> Vec<u64> {
@@ -11,7 +11,7 @@ impl Maker<'_> {
             let place = self.random.below(self.kept.len() as u64) as usize;
             self.kept[place].clone()
         } else {
-            written(self.book)
+            snapshot_of(self.book)
         };
         let over = std::mem::take(&mut self.over);
         match self.random.below(100) {

@@ -1,6 +1,6 @@
 //! The calls that go over all of a full ledger: prune, closes, the long lists and snapshots.
 
-use comparison::image::written;
+use comparison::image::snapshot_of;
 use reference::Runner;
 
 use crate::cases::{Case, Swap};
@@ -131,7 +131,7 @@ fn snapshots() -> Vec<Case> {
     for call in &setup {
         runner.take(call.as_bytes(), &mut Vec::new());
     }
-    let words = written(&runner.book);
+    let words = snapshot_of(&runner.book);
     let write = format!("snapshot lent {}", words.len());
     let row = |name, call| Case::repeated(name, FULL, &setup, call);
     vec![
