@@ -165,7 +165,7 @@ impl<'a> Writer<'a> {
     }
 
     /// Let the script begin here: the ledger so far stands in place of a fresh one.
-    fn begin_anew(&mut self) {
+    pub fn begin_anew(&mut self) {
         if self.restores && self.random.percent(BEGINNING) {
             self.text.clear();
             self.line("restore", &image::snapshot_of(&self.runner.book), None);

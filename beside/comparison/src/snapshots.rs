@@ -3,7 +3,8 @@
 use std::fmt;
 
 use reference::{
-    BREAKS, Book, Broken, DEPARTURES, ENTRIES, Entry, FAULTS, Fault, LAST_SHARD, Reply, Snapshot,
+    ABSENCES, BREAKS, Book, Broken, CORE, DEPARTURES, DESTINATIONS, EDGES, ENTRIES, Entry, FAULTS,
+    Fault, LAST_SHARD, ROUTES, Reply, Snapshot,
 };
 
 use crate::image::snapshot_of;
@@ -24,12 +25,18 @@ pub enum Held {
     Returned,
     Unstamped,
     Stamped,
+    Routes,
+    CoreShards,
+    Edges,
+    Destinations,
+    Absences,
+    Marks,
     Entries,
     Departures,
     Count,
 }
 
-pub const HELD: [(Held, &str); 16] = [
+pub const HELD: [(Held, &str); 22] = [
     (Held::Nothing, "no entry and no departure"),
     (Held::Whole, "a whole entry"),
     (Held::Leg, "a leg"),
@@ -43,6 +50,12 @@ pub const HELD: [(Held, &str); 16] = [
     (Held::Returned, "a mark that was a return"),
     (Held::Unstamped, "a departure without stamp"),
     (Held::Stamped, "a departure with a stamp"),
+    (Held::Routes, "8 routes"),
+    (Held::CoreShards, "8 core shards"),
+    (Held::Edges, "8 edges"),
+    (Held::Destinations, "4 destinations"),
+    (Held::Absences, "8 absences"),
+    (Held::Marks, "8 marks"),
     (Held::Entries, "48 entries"),
     (Held::Departures, "32 departures"),
     (Held::Count, "a count of 2^64 - 1"),
@@ -159,6 +172,14 @@ impl Snapshots {
             Held::Returned => some(|one| one.standing[3] > 0),
             Held::Unstamped => stamped(0),
             Held::Stamped => stamped(1),
+            Held::Routes => some(|one| one.routes.len() as u64 == ROUTES),
+            Held::CoreShards => some(|one| one.core.len() as u64 == CORE),
+            Held::Edges => some(|one| one.ids.len() as u64 == EDGES),
+            Held::Destinations => {
+                some(|one| one.to.iter().any(|to| to.len() as u64 == DESTINATIONS))
+            }
+            Held::Absences => some(|one| one.absences.len() == 2 * ABSENCES),
+            Held::Marks => some(|one| one.marks.len() as u64 == EDGES),
             Held::Entries => entries.len() == ENTRIES,
             Held::Departures => departures.len() == DEPARTURES,
             Held::Count => snapshot.head[4] == u64::MAX,

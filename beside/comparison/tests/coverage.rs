@@ -133,7 +133,7 @@ fn snapshots_come_to_everything() {
         assert!(snapshots.with_room(room) > 300, "{name}: {coverage}");
     }
     for (what, name) in HELD {
-        assert!(snapshots.holding(what) > 50, "{name}: {coverage}");
+        assert!(snapshots.holding(what) > 20, "{name}: {coverage}");
     }
     for (how, name) in BREAKS {
         assert!(snapshots.broken(how) > 20, "{name}: {coverage}");
