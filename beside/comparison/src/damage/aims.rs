@@ -60,7 +60,7 @@ pub const AIMS: [Aim; 42] = [
 
 /// Swap two neighbours, or say one of them twice; none where there are no two.
 fn disorder<T: Clone>(random: &mut Random, items: &mut [T]) -> Option<()> {
-    let place = random.below(items.len().checked_sub(1).filter(|n| *n > 0)? as u64) as usize;
+    let place = random.between(0, items.len().checked_sub(2)? as u64) as usize;
     if random.percent(50) {
         items.swap(place, place + 1);
     } else {
@@ -93,9 +93,8 @@ fn entry_order(random: &mut Random, image: &mut Image) -> Option<()> {
     if random.percent(50) {
         return disorder(random, &mut image.entries);
     }
-    let place = random.below(image.entries.len().checked_sub(1).filter(|n| *n > 0)? as u64);
-    let twice = image.entries[place as usize].figures[0];
-    image.entries[place as usize + 1].figures[0] = twice;
+    let place = random.between(0, image.entries.len().checked_sub(2)? as u64) as usize;
+    image.entries[place + 1].figures[0] = image.entries[place].figures[0];
     Some(())
 }
 
