@@ -9,8 +9,9 @@ use crate::left_out::{LeftOut, Verdict};
 use crate::limits::Limits;
 use crate::prunes::{Judged, Prunes, Rule};
 use crate::series::{Listener, Pairs};
+use crate::snapshots::Snapshots;
 
-const REFUSALS: usize = 12;
+const REFUSALS: usize = 14;
 const REMAINDER: u64 = 3;
 
 #[derive(Default)]
@@ -19,6 +20,7 @@ pub struct Coverage {
     malformed: u64,
     calls: Calls,
     bundles: Bundles,
+    snapshots: Snapshots,
     prunes: Prunes,
     pairs: Pairs,
     left_out: LeftOut,
@@ -76,6 +78,10 @@ impl Coverage {
         &self.bundles
     }
 
+    pub fn snapshots(&self) -> &Snapshots {
+        &self.snapshots
+    }
+
     /// How often several prunes were set against one.
     pub fn pairs(&self) -> Pairs {
         self.pairs
@@ -103,6 +109,11 @@ impl Coverage {
         if let ("bundle", Some(before)) = (reply.call.name, &before) {
             self.bundles
                 .count(&runner.numbers, reply, before, &runner.book);
+        }
+        match reply.call.name {
+            "snapshot" => self.snapshots.wrote(reply, &runner.book),
+            "restore" => self.snapshots.read(&runner.numbers, reply),
+            _ => {}
         }
         if reply.status != 0 {
             return;
@@ -160,6 +171,7 @@ impl fmt::Display for Coverage {
             writeln!(f)?;
         }
         writeln!(f, "{}", self.bundles)?;
+        writeln!(f, "{}", self.snapshots)?;
         writeln!(f, "{}", self.prunes)?;
         let Pairs {
             equal,

@@ -1,12 +1,13 @@
 //! The numbers of each call, drawn from the pools and steered by what the ledger holds.
 
 mod bundling;
+mod restoring;
 
 pub use bundling::shuffle;
 
 use std::collections::BTreeSet;
 
-use reference::{CORE, DEEPEST, DESTINATIONS, EDGES, GROUPS, LAST_TIME, ROUTES, Tally};
+use reference::{Book, CORE, DEEPEST, DESTINATIONS, EDGES, GROUPS, LAST_TIME, ROUTES, Tally};
 
 use crate::pools::Pools;
 use crate::profiles::Profile;
@@ -20,7 +21,10 @@ pub struct Maker<'a> {
     pub random: &'a mut Random,
     pub pools: &'a Pools,
     pub profile: &'a Profile,
+    pub book: &'a Book,
     pub tally: &'a Tally,
+    /// Snapshots that the script took.
+    pub kept: &'a [Vec<u64>],
     /// While a table is filled: which of the pool's transactions and shards is due.
     pub turn: Option<usize>,
     /// Whether sizes may go one past their limits, the words being as many as they say.
@@ -31,8 +35,9 @@ type Draw<'a> = fn(&mut Maker<'a>) -> Vec<u64>;
 
 impl<'a> Maker<'a> {
     /// Each call with its usual weight.
-    pub const DRAWS: [(&'static str, u64, Draw<'a>); 33] = [
+    pub const DRAWS: [(&'static str, u64, Draw<'a>); 35] = [
         ("new", 1, Self::making),
+        ("restore", 20, Self::snapshot),
         ("register_committed", 30, Self::admission),
         ("record_absence", 6, Self::absence),
         ("certify", 10, Self::certificate),
@@ -64,6 +69,7 @@ impl<'a> Maker<'a> {
         ("issued_by", 2, Self::mark),
         ("local", 1, Self::nothing),
         ("rebuilt", 1, Self::nothing),
+        ("snapshot", 3, Self::nothing),
         ("dump", 3, Self::nothing),
     ];
 

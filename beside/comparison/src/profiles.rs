@@ -225,8 +225,27 @@ const ABSENT_BLOCKS: Profile = Profile {
     ..ABSENCES
 };
 
+/// Snapshots of ledgers that hold some of everything.
+const SNAPSHOTS: Profile = Profile {
+    transactions: 5,
+    decomposed: 80,
+    own: 30,
+    breach: 2,
+    fill: (5, "register_committed"),
+    lines: (20, 50),
+    favour: &[
+        "restore",
+        "snapshot",
+        "release_resolved",
+        "record_absence",
+        "settled",
+        "returned",
+    ],
+    ..MIXED
+};
+
 /// Each with its weight.
-const PROFILES: [(u64, &Profile); 16] = [
+const PROFILES: [(u64, &Profile); 17] = [
     (20, &MIXED),
     (6, &FULL),
     (2, &BRIM),
@@ -243,6 +262,7 @@ const PROFILES: [(u64, &Profile); 16] = [
     (4, &FULL_BLOCKS),
     (4, &DEPARTING_BLOCKS),
     (4, &ABSENT_BLOCKS),
+    (10, &SNAPSHOTS),
 ];
 
 pub fn pick(random: &mut Random) -> &'static Profile {

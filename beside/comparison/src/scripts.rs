@@ -1,8 +1,9 @@
 //! Puts lines together to a script, running each on the Rust to know what stands.
 
-use reference::{CALLS, Call, FILLER, Given, LONGEST_SPAN, MOST_LENT, Runner, call_named};
+use reference::{CALLS, Call, FILLER, Given, LONGEST_SPAN, MOST_LENT, Reply, Runner, call_named};
 
 use crate::breaches::spoil;
+use crate::image;
 use crate::items::{joined, written};
 use crate::lines::{Maker, shuffle};
 use crate::malformed;
@@ -14,6 +15,12 @@ use crate::stretches;
 
 /// Lent to a call that is refused whatever its list.
 const SOME_WORDS: u64 = 4;
+
+/// Shares in percent: scripts with restores, whatever their profile; of these those that begin with one; and restores refused after which the
+/// ledger is put back.
+const RESTORING: u64 = 20;
+const BEGINNING: u64 = 20;
+const PUT_BACK: u64 = 85;
 
 /// The names a script may use; `repeat` is one of them.
 pub struct Names(Vec<String>);
@@ -59,7 +66,7 @@ impl Names {
 
 pub struct Script {
     pub text: Vec<u8>,
-    /// To be run by itself: it does not start with `new`, or it may stop early.
+    /// To be run by itself: it does not start with `new` or `restore`, or it may stop early.
     pub apart: bool,
 }
 
@@ -73,6 +80,7 @@ pub fn script(seed: u64, index: u64, names: &Names) -> Script {
         writer.start();
     }
     writer.fill();
+    writer.begin_anew();
     writer.mix();
     writer.finish();
     let Writer { text, pools, .. } = writer;
@@ -111,11 +119,16 @@ pub struct Writer<'a> {
     pub pools: Pools,
     pub runner: Runner,
     pub text: Vec<u8>,
+    /// Whether the script restores, which makes it long, and what it may restore: the snapshots that it took.
+    restores: bool,
+    kept: Vec<Vec<u64>>,
 }
 
 impl<'a> Writer<'a> {
     pub fn of(random: &'a mut Random, profile: &'static Profile, names: &'a Names) -> Self {
         let pools = Pools::of(random, profile);
+        let favoured = profile.favour.contains(&"restore");
+        let restores = names.has("restore") && (favoured || random.percent(RESTORING));
         Self {
             random,
             profile,
@@ -123,6 +136,8 @@ impl<'a> Writer<'a> {
             pools,
             runner: Runner::default(),
             text: Vec::new(),
+            restores,
+            kept: Vec::new(),
         }
     }
 
@@ -146,6 +161,14 @@ impl<'a> Writer<'a> {
         let count = count - self.random.below(count / 4 + 1);
         for turn in 0..if self.names.has(name) { count } else { 0 } {
             self.call(name, false, Some(turn as usize));
+        }
+    }
+
+    /// Let the script begin here: the ledger so far stands in place of a fresh one.
+    pub fn begin_anew(&mut self) {
+        if self.restores && self.random.percent(BEGINNING) {
+            self.text.clear();
+            self.line("restore", &image::snapshot_of(&self.runner.book), None);
         }
     }
 
@@ -189,7 +212,7 @@ impl<'a> Writer<'a> {
         };
         Maker::DRAWS
             .iter()
-            .filter(|(name, _, _)| self.names.has(name))
+            .filter(|(name, _, _)| self.names.has(name) && (self.restores || *name != "restore"))
             .map(|(name, weight, _)| (*name, weight * favour(name)))
             .collect()
     }
@@ -225,6 +248,7 @@ impl<'a> Writer<'a> {
         let Some((call, numbers)) = self.draw(name, breach, turn) else {
             return;
         };
+        let before = (name == "restore").then(|| image::snapshot_of(&self.runner.book));
         if call.item > 0 {
             self.list_call(name, &numbers);
         } else {
@@ -232,11 +256,23 @@ impl<'a> Writer<'a> {
             let lent = self.random.percent(1).then_some(3);
             self.line(name, &numbers, lent);
         }
+        if let Some(words) = before {
+            self.put_back(&words);
+        }
         if matches!(name, "settled" | "returned") && self.random.percent(40) {
             self.mark_all(name, numbers[1]);
         }
         if name == "bundle" && self.random.percent(15) {
             self.reordered(&numbers);
+        }
+    }
+
+    /// After a restore that was refused: mostly put the ledger back, given as a snapshot.
+    fn put_back(&mut self, words: &[u64]) {
+        let last = self.runner.reply.as_ref();
+        let refused = last.is_some_and(|reply| reply.status != 0);
+        if refused && self.random.percent(PUT_BACK) {
+            self.line("restore", words, None);
         }
     }
 
@@ -264,7 +300,9 @@ impl<'a> Writer<'a> {
             random: self.random,
             pools: &self.pools,
             profile: self.profile,
+            book: &self.runner.book,
             tally: &tally,
+            kept: &self.kept,
             turn,
             over,
         };
@@ -322,6 +360,11 @@ impl<'a> Writer<'a> {
     fn list_call(&mut self, name: &str, numbers: &[u64]) {
         let lent = self.lent(name, numbers);
         self.line(name, numbers, lent);
+        let wrote = |reply: &&Reply| name == "snapshot" && reply.status == 0;
+        if let Some(reply) = self.runner.reply.as_ref().filter(wrote) {
+            self.kept
+                .push(reply.lent[..reply.said[0] as usize].to_vec());
+        }
     }
 
     /// A list one word short, exact, or longer; now and then none or the longest.

@@ -1,10 +1,13 @@
 //! Shortens a script while two programs still answer it differently.
 
+use crate::image::Image;
 use crate::items::{joined, written};
 use crate::scripts::line;
 
 /// Runs are bounded, since each one starts a program.
 const MOST_RUNS: usize = 3000;
+/// More bytes make a restore a long one.
+const LONG: usize = 400;
 
 /// Drop stretches of lines, halves first and single lines last, as long as `differs` holds.
 pub fn shorten(script: &[u8], mut differs: impl FnMut(&[u8]) -> bool) -> Vec<u8> {
@@ -31,7 +34,7 @@ pub fn shorten(script: &[u8], mut differs: impl FnMut(&[u8]) -> bool) -> Vec<u8>
     lines.concat()
 }
 
-/// Then drop items of bundles, each with its kind, its length and its words.
+/// Then drop items of bundles, each with its kind, its length and its words; and entries and departures of snapshots that are restored.
 pub fn thin(script: &[u8], mut differs: impl FnMut(&[u8]) -> bool) -> Vec<u8> {
     let mut lines: Vec<Vec<u8>> = script
         .split_inclusive(|byte| *byte == b'\n')
@@ -39,8 +42,8 @@ pub fn thin(script: &[u8], mut differs: impl FnMut(&[u8]) -> bool) -> Vec<u8> {
         .collect();
     let mut runs = 0;
     for place in 0..lines.len() {
-        let mut item = 0;
-        while let Some(without) = without_item(&lines[place], item) {
+        let mut part = 0;
+        while let Some(without) = without_part(&lines[place], part) {
             if runs == MOST_RUNS {
                 break;
             }
@@ -48,33 +51,49 @@ pub fn thin(script: &[u8], mut differs: impl FnMut(&[u8]) -> bool) -> Vec<u8> {
             runs += 1;
             if !differs(&lines.concat()) {
                 lines[place] = kept;
-                item += 1;
+                part += 1;
             }
         }
     }
     lines.concat()
 }
 
-/// A bundle's line without one of its items; none where it is no bundle, is not well formed, or has no such item.
-fn without_item(text: &[u8], place: usize) -> Option<Vec<u8>> {
+/// The line without one of its parts; none where it has no such part, is not well formed, or is of a call that has none.
+fn without_part(text: &[u8], place: usize) -> Option<Vec<u8>> {
     let text = std::str::from_utf8(text).ok()?.strip_suffix('\n')?;
     let (name, numbers) = text.split_once(' ')?;
-    let numbers = numbers
-        .split(' ')
-        .map(str::parse)
-        .collect::<Result<Vec<u64>, _>>();
-    let (numbers, true) = (numbers.ok()?, name == "bundle") else {
-        return None;
+    let numbers = numbers.split(' ').map(str::parse);
+    let numbers = numbers.collect::<Result<Vec<u64>, _>>().ok()?;
+    let numbers = match name {
+        "bundle" => without_item(&numbers, place)?,
+        "restore" => without_held(&numbers, place)?,
+        _ => return None,
     };
-    let mut items = written(&numbers);
+    Some((line(name, &numbers, None) + "\n").into_bytes())
+}
+
+fn without_item(numbers: &[u64], place: usize) -> Option<Vec<u64>> {
+    let mut items = written(numbers);
     if joined(&items) != numbers || place >= items.len() {
         return None;
     }
     items.remove(place);
-    Some((line(name, &joined(&items), None) + "\n").into_bytes())
+    Some(joined(&items))
 }
 
-/// Then put 0 or 1 for every number that can be so without the difference going away.
+/// A snapshot without one of its entries or, behind these, its departures.
+fn without_held(numbers: &[u64], place: usize) -> Option<Vec<u64>> {
+    let mut image = Image::of(numbers)?;
+    match place.checked_sub(image.entries.len()) {
+        None => drop(image.entries.remove(place)),
+        Some(behind) if behind < image.departures.len() => drop(image.departures.remove(behind)),
+        Some(_) => return None,
+    }
+    Some(image.words())
+}
+
+/// Then put 0 or 1 for every number that can be so without the difference going away. Those of a long restore stay as they are: they would
+/// take up all the runs, and hardly one of them can be another without the rest.
 pub fn simplify(script: &[u8], mut differs: impl FnMut(&[u8]) -> bool) -> Vec<u8> {
     let mut words: Vec<Vec<u8>> = words_of(script);
     let mut runs = 0;
@@ -94,11 +113,16 @@ pub fn simplify(script: &[u8], mut differs: impl FnMut(&[u8]) -> bool) -> Vec<u8
     words.concat()
 }
 
-/// The text cut into runs of digits and what lies between them.
+/// The text cut into runs of digits and what lies between them, a long restore in one piece.
 fn words_of(script: &[u8]) -> Vec<Vec<u8>> {
-    script
-        .chunk_by(|one, next| one.is_ascii_digit() == next.is_ascii_digit())
-        .map(<[u8]>::to_vec)
+    let lines = script.split_inclusive(|byte| *byte == b'\n');
+    lines
+        .flat_map(|line| {
+            let whole = line.starts_with(b"restore") && line.len() > LONG;
+            let same = |one: &u8, next: &u8| whole || one.is_ascii_digit() == next.is_ascii_digit();
+            let words = line.chunk_by(same).map(<[u8]>::to_vec);
+            words.collect::<Vec<_>>()
+        })
         .collect()
 }
 

@@ -24,6 +24,7 @@ pub fn script(random: &mut Random, profile: &'static Profile, names: &Names) -> 
     let mut writer = Writer::of(random, profile, names);
     writer.start();
     writer.fill();
+    writer.begin_anew();
     writer.mix();
     if writer.random.percent(60) {
         writer.leave();

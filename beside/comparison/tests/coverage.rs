@@ -7,10 +7,13 @@ use comparison::bundles::EDGES;
 use comparison::coverage::Coverage;
 use comparison::prunes::{RULES, Rule};
 use comparison::scripts::{Names, script};
+use comparison::snapshots::{HELD, ROOMS};
+use reference::{BREAKS, FAULTS};
 
 /// Each call with the refusals that the paper's table allows it.
-const REFUSALS: [(&str, &[u64]); 20] = [
+const REFUSALS: [(&str, &[u64]); 22] = [
     ("new", &[1, 2]),
+    ("restore", &[12, 13]),
     ("register_committed", &[3, 4, 5, 6]),
     ("record_absence", &[4, 7]),
     ("certify", &[5]),
@@ -30,6 +33,7 @@ const REFUSALS: [(&str, &[u64]); 20] = [
     ("claimants", &[9]),
     ("unstamped_departures", &[9]),
     ("reach", &[9]),
+    ("snapshot", &[9]),
 ];
 
 /// One run of the generator, of which every test asks another thing.
@@ -117,6 +121,27 @@ fn bundles_come_to_every_edge() {
     }
     for (edge, name) in EDGES {
         assert!(bundles.with_edge(edge) > 20, "{name}: {coverage}");
+    }
+}
+
+/// Each fault alone too: then nothing else in the words refuses them.
+#[test]
+fn snapshots_come_to_everything() {
+    let coverage = &*COVERAGE;
+    let snapshots = coverage.snapshots();
+    for (room, name) in ROOMS {
+        assert!(snapshots.with_room(room) > 300, "{name}: {coverage}");
+    }
+    for (what, name) in HELD {
+        assert!(snapshots.holding(what) > 20, "{name}: {coverage}");
+    }
+    for (how, name) in BREAKS {
+        assert!(snapshots.broken(how) > 20, "{name}: {coverage}");
+    }
+    assert!(snapshots.broken_without_local() > 5, "{coverage}");
+    for (fault, name) in FAULTS {
+        let [_, alone] = snapshots.refused(fault);
+        assert!(alone > 5, "{name}: {coverage}");
     }
 }
 

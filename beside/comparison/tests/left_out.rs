@@ -120,10 +120,7 @@ fn the_instances_fail_and_show_what_they_say() {
             .filter(|line| !is_prune(line))
             .collect();
         assert_eq!(others, case.bare, "{name}");
-        let first = made
-            .iter()
-            .position(|line| is_prune(&line))
-            .expect("a prune left out");
+        let first = made.iter().position(is_prune).expect("a prune left out");
         let (before, calls) = made.split_at(first);
         let text = [before, &["# prunes left out"], calls, &[""]]
             .concat()

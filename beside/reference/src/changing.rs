@@ -8,18 +8,27 @@ use hyperscale_types::{
 };
 
 use crate::book::{Book, write};
-use crate::ledger::{Certified, Ledger, inside};
+use crate::ledger::{Ledger, inside};
 use crate::refusals::{
     ABSENCES, ABSENCES_FULL, BAD_WORDS, DEPARTURES, DEPARTURES_FULL, ENTRIES, ENTRIES_FULL,
     at_most, shards, times, unless,
 };
+use crate::snapshot::restored;
 use crate::table::Given;
 use crate::words::{Admission, abandonment_record, finalization};
 
 pub type Answered = Result<(), u64>;
 
 pub fn new(book: &mut Book, given: Given) -> Answered {
-    let made = Book::make(given.numbers);
+    replace(book, Book::make(given.numbers))
+}
+
+pub fn restore(book: &mut Book, given: Given) -> Answered {
+    replace(book, restored(given.numbers))
+}
+
+/// A refused reading hands back what a refused making does.
+fn replace(book: &mut Book, made: Result<Book, u64>) -> Answered {
     let refusal = made.as_ref().err().copied();
     *book = made.unwrap_or_default();
     refusal.map_or(Ok(()), Err)
@@ -55,12 +64,7 @@ pub fn record_absence(book: &mut Book, given: Given) -> Answered {
 }
 
 pub fn certify(book: &mut Book, given: Given) -> Answered {
-    let how = match given.numbers[1] {
-        0 => Certified::No,
-        1 => Certified::ByAbandonment,
-        2 => Certified::ByExecution,
-        _ => return Err(BAD_WORDS),
-    };
+    let how = inside::certified(given.numbers[1]).ok_or(BAD_WORDS)?;
     book.ledger.certify(TxHash(given.numbers[0]), how);
     Ok(())
 }

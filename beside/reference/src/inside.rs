@@ -1,13 +1,18 @@
-//! A child module of the Rust's ledger: reads its private fields, and changes none.
+//! A child module of the Rust's ledger: reads its private fields, and sets them only where a ledger is made of
+//! another, for a copy, or of a snapshot.
 
 use std::collections::{BTreeMap, BTreeSet};
 
 use hyperscale_engine::legs::{Classified, CrossingEdge};
-use hyperscale_types::{RoutePrefix, ShardId, SubstateKey, TxHash};
+use hyperscale_types::{PriceTable, RoutePrefix, ShardId, SubstateKey, TxHash, Verifiable, WeightedTimestamp};
 use hyperscale_vm_effects::Kind;
 
 use super::{Certified, Departure, Ledger, Owed, Part};
 use crate::book::{Held, Holder, Leaving, Remote, Standing};
+use crate::snapshot::Entry;
+use crate::words::Admission;
+
+const REMAINDER: u64 = 3;
 
 /// The ledger has no `Clone`, and a list too short must leave it as it was.
 pub fn copy(ledger: &Ledger) -> Ledger {
@@ -100,16 +105,31 @@ pub fn dump(ledger: &Ledger, out: &mut Vec<u64>) {
     let pairs = pairs(ledger);
     out.extend([ledger.owed.len() as u64, ledger.departed.len() as u64, pairs.len() as u64]);
     for owed in ledger.owed.values() {
-        dump_admission(owed, out);
-        dump_standing(owed, out);
+        push_entry(owed, out);
     }
-    for (shard, departure) in &ledger.departed {
-        dump_departure(*shard, departure, out);
-    }
+    push_departures(ledger, out);
     out.extend(pairs.into_iter().flat_map(|(record, tx_hash)| [record, tx_hash]));
 }
 
-fn dump_admission(owed: &Owed, out: &mut Vec<u64>) {
+/// The numbers of entries and departures, each entry's length, then their words.
+pub fn snapshot(ledger: &Ledger, out: &mut Vec<u64>) {
+    out.extend([ledger.owed.len() as u64, ledger.departed.len() as u64]);
+    let mut entries = Vec::new();
+    for owed in ledger.owed.values() {
+        let before = entries.len();
+        push_entry(owed, &mut entries);
+        out.push((entries.len() - before) as u64);
+    }
+    out.extend(entries);
+    push_departures(ledger, out);
+}
+
+fn push_entry(owed: &Owed, out: &mut Vec<u64>) {
+    push_admission(owed, out);
+    push_standing(owed, out);
+}
+
+fn push_admission(owed: &Owed, out: &mut Vec<u64>) {
     let figures = &owed.figures;
     let classified = owed.part.kept().map(|kept| &kept.classified);
     let core: Vec<u64> = classified.map_or(Vec::new(), |c| c.core().iter().map(|s| s.0).collect());
@@ -132,7 +152,7 @@ fn dump_admission(owed: &Owed, out: &mut Vec<u64>) {
     out.extend(edges.iter().flat_map(|edge| edge.to.iter().map(|shard| shard.0)));
 }
 
-fn dump_standing(owed: &Owed, out: &mut Vec<u64>) {
+fn push_standing(owed: &Owed, out: &mut Vec<u64>) {
     let held = owed.part.held();
     let returned = held.is_some_and(|held| held.returned);
     let named = owed.departed_by.map_or(0, |shard| shard.0);
@@ -143,10 +163,47 @@ fn dump_standing(owed: &Owed, out: &mut Vec<u64>) {
     out.extend(held.into_iter().flat_map(|held| held.gone.iter().map(|record| record.0)));
 }
 
-fn dump_departure(shard: ShardId, departure: &Departure, out: &mut Vec<u64>) {
-    let until = departure.readable_until;
-    let stamped = u64::from(until.is_some());
-    out.extend([shard.0, departure.cut.0, stamped, until.map_or(0, |until| until.0)]);
+fn push_departures(ledger: &Ledger, out: &mut Vec<u64>) {
+    for (shard, departure) in &ledger.departed {
+        let until = departure.readable_until;
+        let stamped = u64::from(until.is_some());
+        out.extend([shard.0, departure.cut.0, stamped, until.map_or(0, |until| until.0)]);
+    }
+}
+
+/// The ledger of these words, which are such as are written: an entry comes in as an admission, which also puts it into the index, and
+/// is then set to how it stood.
+pub fn restored(local: ShardId, entries: &[Entry], departures: &[&[u64]]) -> Ledger {
+    let mut ledger = Ledger::new(local);
+    for entry in entries {
+        let admission = Admission::read(entry.admission).expect("as an admission's");
+        let Admission { committed, transaction, classified } = admission;
+        let tx_hash = transaction.hash();
+        let member = Verifiable(transaction);
+        ledger.register_committed(committed, &PriceTable, [(&member, &classified)]);
+        set_standing(ledger.owed.get_mut(&tx_hash).expect("just taken in"), entry);
+    }
+    for departure in departures {
+        let [cut, until] = [1, 3].map(|place| WeightedTimestamp(departure[place]));
+        let readable_until = (departure[2] == 1).then_some(until);
+        ledger.departed.insert(ShardId(departure[0]), Departure { cut, readable_until });
+    }
+    ledger
+}
+
+fn set_standing(owed: &mut Owed, entry: &Entry) {
+    let [part, certificate, named, returned] = entry.standing;
+    if part == REMAINDER {
+        owed.part.resolve();
+    }
+    if let Some(held) = owed.part.held_mut() {
+        held.gone = entry.marks.iter().copied().map(SubstateKey).collect();
+        held.returned = returned == 1;
+    }
+    owed.certified = certified(certificate).expect("a code");
+    owed.departed_by = (named > 0).then_some(ShardId(named));
+    let absences = entry.absences.chunks_exact(2);
+    owed.absences = absences.map(|pair| (ShardId(pair[0]), SubstateKey(pair[1]))).collect();
 }
 
 fn part(owed: &Owed) -> u64 {
@@ -154,7 +211,16 @@ fn part(owed: &Owed) -> u64 {
         Part::Whole => 0,
         Part::Leg(_) => 1,
         Part::Core(_) => 2,
-        Part::Remainder(_) => 3,
+        Part::Remainder(_) => REMAINDER,
+    }
+}
+
+pub fn certified(code: u64) -> Option<Certified> {
+    match code {
+        0 => Some(Certified::No),
+        1 => Some(Certified::ByAbandonment),
+        2 => Some(Certified::ByExecution),
+        _ => None,
     }
 }
 

@@ -3,9 +3,11 @@
 mod book;
 mod bundle;
 mod changing;
+mod faults;
 mod readings;
 mod refusals;
 mod script;
+mod snapshot;
 mod table;
 mod words;
 
@@ -23,10 +25,12 @@ mod original {
 
 pub use book::{Book, Held, Holder, Leaving, Remote, Standing, Tally};
 pub use bundle::{KINDS, Kind, keep_no_copy};
+pub use faults::{FAULTS, Fault};
 pub use original::ledger;
 pub use refusals::{
     ABSENCES, CORE, DEEPEST, DEPARTURES, DESTINATIONS, EDGES, ENTRIES, GROUPS, ITEMS, LAST_SHARD,
     LAST_TIME, LONGEST_SPAN, ROUTES,
 };
 pub use script::{FILLER, MOST_LENT, MOST_NUMBERS, Reply, Runner, run};
+pub use snapshot::{BREAKS, Broken, Entry, Snapshot};
 pub use table::{CALLS, Call, Given, call_named};

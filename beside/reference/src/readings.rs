@@ -137,18 +137,29 @@ pub fn rebuilt(book: &mut Book, given: Given) -> Answered {
     given.say(book.rebuilt)
 }
 
+pub fn snapshot(book: &mut Book, given: Given) -> Answered {
+    let mut words = head(book).to_vec();
+    inside::snapshot(&book.ledger, &mut words);
+    list(words.into_iter().map(|word| [word]), given)
+}
+
 pub fn dump(book: &mut Book, given: Given) -> Answered {
+    given.said.extend(head(book));
+    inside::dump(&book.ledger, given.said);
+    Ok(())
+}
+
+/// Local, the spans and the running count.
+fn head(book: &Book) -> [u64; 5] {
     let spans = book.spans;
     let local = book.ledger.local().0;
-    given.said.extend([
+    [
         local,
         spans.validity,
         spans.core,
         spans.leg_entry,
         book.rebuilt,
-    ]);
-    inside::dump(&book.ledger, given.said);
-    Ok(())
+    ]
 }
 
 fn lookup(book: &Book, given: Given, ask: impl Fn(&Ledger, TxHash) -> bool) -> Answered {

@@ -11,6 +11,8 @@ pub const DEPARTURES_FULL: u64 = 8;
 pub const LIST_SHORT: u64 = 9;
 pub const NO_KIND: u64 = 10;
 pub const BAD_BUNDLE: u64 = 11;
+pub const BAD_FORM: u64 = 12;
+pub const NEVER_WRITTEN: u64 = 13;
 
 pub const LAST_TIME: u64 = (1 << 48) - 1;
 pub const LAST_SHARD: u64 = (1 << 33) - 1;

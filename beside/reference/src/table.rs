@@ -45,8 +45,9 @@ impl Call {
     }
 }
 
-pub static CALLS: [Call; 33] = [
+pub static CALLS: [Call; 35] = [
     Call::of("new", Some(4), 0, changing::new),
+    Call::of("restore", None, 0, changing::restore),
     Call::of("register_committed", None, 0, changing::register_committed),
     Call::of("record_absence", Some(3), 0, changing::record_absence),
     Call::of("certify", Some(2), 0, changing::certify),
@@ -88,6 +89,7 @@ pub static CALLS: [Call; 33] = [
     Call::of("issued_by", Some(2), 0, readings::issued_by),
     Call::of("local", Some(0), 0, readings::local),
     Call::of("rebuilt", Some(0), 0, readings::rebuilt),
+    Call::of("snapshot", Some(0), 1, readings::snapshot),
     Call::of("dump", Some(0), 0, readings::dump),
 ];
 
