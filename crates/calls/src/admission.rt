@@ -44,7 +44,7 @@ pub fn take_in(ledger: &mut Ledger, e: &Entry)
 }
 
 // The words of an admission, by the table.
-fn check(words: &[u64]) -> Result<Admission<'_>, Refusal>
+pub fn check(words: &[u64]) -> Result<Admission<'_>, Refusal>
     ensures refused { refused_in result ≡ words_refusal words.now }
     ensures read { IfOk result (λ a. a.parts.words.now ≡ words.now) }
 {

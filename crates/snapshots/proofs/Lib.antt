@@ -1,3 +1,4 @@
 pub mod Forms
 pub mod Fitting
 pub mod Histories
+pub mod Sound

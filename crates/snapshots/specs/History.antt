@@ -15,7 +15,7 @@ abbrev pub absences_in : List ℕ → List plain.Absence
 absences_in hs = map absence_in (absence_parts hs)
 
 -- the tests that need neither the terms nor local
-abbrev pub history_sound : List ℕ → Bool
+unfoldable pub history_sound : List ℕ → Bool
 history_sound hs =
     all_of (
       leb (word 0 hs) 3

@@ -9,10 +9,10 @@ ghost use Rattle.entry.specs.Entry.{plain_part, plain_entry, Means};
 
 use crate::form::admission_length;
 use crate::history::History;
+use calls::admission::check;
 use entry::{Entry, Part};
 use lists::slices::{rises, word_at};
 use types::{RecordKey, Shard};
-use words::admission::Admission;
 
 // An admission that is not decomposed and has neither core nor edges.
 fn is_bare(words: &[u64]) -> bool
@@ -75,10 +75,7 @@ pub fn read_entry(words: &[u64], local: Shard) -> Option<Entry>
     ensures { MatchOption result (entry_sound local.0 words.now ≡ false) (λ e. (entry_sound local.0 words.now ≡ true) × Means (entry_in words.now) e) }
 {
     let (admitted, rest) = words.split_at(admission_length(words)?);
-    let admission = Admission::read(admitted)?;
-    if !admission.is_timed() || !admission.is_placed() {
-        return None;
-    }
+    let admission = check(admitted).ok()?;
     let history = History::read(rest)?;
     let mut e = admission.entry(local);
     if !part_fits(history.part, admitted, &e, local) {

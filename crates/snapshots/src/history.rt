@@ -1,9 +1,10 @@
 // What became of an entry after its admission, as a snapshot's words have it: part, certificate, naming shard or 0, returned; the number of
 // absences and these, the number of marks and these.
-ghost use Rattle.std.specs.Prelude.{◌≡◌, ◌≤◌, true, false, map, MatchOption};
+ghost use Rattle.std.specs.Prelude.{◌≡◌, ◌≤◌, ◌&&◌, true, false, map, MatchOption};
 ghost use Rattle.lists.specs.Lists.{all, ascending};
 ghost use Rattle.lists.specs.Front.{held};
 ghost use Rattle.rules.specs.Numbers.{is_shard};
+ghost use Rattle.rules.specs.Plain as plain;
 ghost use Rattle.rules.specs.Plain.{absence_key};
 ghost use Rattle.rules.specs.Good.{is_departed_by};
 ghost use Rattle.rules.specs.Snapshot.{absence_count, absence_parts, absence_in, marks_in as marks_at_end};
@@ -63,6 +64,13 @@ fn rise(s: &[Absence]) -> bool
     s.is_sorted_by(|a, b| a.is_below(*b))
 }
 
+// Whether each is of a shard, and one is above the one before it.
+fn are_absences(s: &[Absence]) -> bool
+    ensures { result ≡ all (λ (a : plain.Absence). is_shard a.shard) (map plain_absence s.now) && ascending absence_key (map plain_absence s.now) }
+{
+    are_placed(s) && rise(s)
+}
+
 fn marks_in(words: &[u64]) -> Front<u64, 8>
     requires { history_formed words.now ≡ true }
     ensures { held result ≡ marks_at_end words.now }
@@ -77,6 +85,7 @@ fn marks_in(words: &[u64]) -> Front<u64, 8>
 
 impl History {
     // None where the words are such as are written of no entry.
+    #[tactic(auto, unfolding(crate::specs::History::history_sound))]
     pub fn read(words: &[u64]) -> Option<History>
         requires { history_formed words.now ≡ true }
         ensures { MatchOption result (history_sound words.now ≡ false) (λ h. (history_sound words.now ≡ true) × Tells words.now h) }
@@ -89,7 +98,7 @@ impl History {
             return None;
         }
         let absences = absences_in(words);
-        if !are_placed(absences.as_slice()) || !rise(absences.as_slice()) {
+        if !are_absences(absences.as_slice()) {
             return None;
         }
         Some(History {
