@@ -20,8 +20,9 @@ pub stands_at : (n k : ℕ) (l a b : List ℕ) → drop n l ≡ a ++ b → lengt
 stands_at n k l a b e h = ap (take k) e ∙ take_at a b k h
 
 -- a part and what is behind it, or a word and what is behind it
-pub part_then : (n k : ℕ) (l m : List ℕ) → drop (n + k) l ≡ m → drop n l ≡ part n k l ++ m
-part_then n k l m e = sym (take-append-drop k (drop n l)) ∙ ap (λ b. part n k l ++ b) (drop-drop k n l ∙ e)
+pub part_then : (n k next : ℕ) (l m : List ℕ) → n + k ≡ next → drop next l ≡ m → drop n l ≡ part n k l ++ m
+part_then n k next l m h e =
+    sym (take-append-drop k (drop n l)) ∙ ap (λ b. part n k l ++ b) (drop-drop k n l ∙ ap (λ i. drop i l) h ∙ e)
 
 pub word_then : (n : ℕ) (l m : List ℕ) → n < length l → drop (n + 1) l ≡ m → drop n l ≡ get_or l n 0 ∷ m
 word_then n l m h e = rest_more 0 l n h ∙ ap (λ b. get_or l n 0 ∷ b) e
@@ -55,20 +56,20 @@ module _ {A : Type 0} (f : A → List ℕ) where
     pub rows_joined : (xs : List A) (rest : List ℕ) → rows k (length xs) (concat_map f xs ++ rest) ≡ map f xs
     rows_joined xs rest = rw (one_size xs) at (cut_joined xs rest)
 
--- the lists of words, end to end
+-- the lists, end to end
 pub concat_map-map : {A B : Type 0} (f : A → List B) (xs : List A) → concat_map (λ m. m) (map f xs) ≡ concat_map f xs
 concat_map-map f [] = refl
 concat_map-map f (x ∷ xs) = ap (λ m. f x ++ m) (concat_map-map f xs)
 
 -- What is cut apart is the front of the list, and each piece has its size.
-take_more : (m n : ℕ) (l : List ℕ) → take (m + n) l ≡ take m l ++ take n (drop m l)
-take_more zero n l = ap (λ k. take k l) (let z : 0 + n ≡ n = omega arith in z)
-take_more (suc m) n [] = rw (suc-add m n) (sym (take-nil n))
-take_more (suc m) n (x ∷ l) = rw (suc-add m n) (ap (λ k. x ∷ k) (take_more m n l))
+take_sum : (m n : ℕ) (l : List ℕ) → take (m + n) l ≡ take m l ++ take n (drop m l)
+take_sum zero n l = ap (λ k. take k l) (let z : 0 + n ≡ n = omega arith in z)
+take_sum (suc m) n [] = rw (suc-add m n) (sym (take-nil n))
+take_sum (suc m) n (x ∷ l) = rw (suc-add m n) (ap (λ k. x ∷ k) (take_sum m n l))
 
 pub joined_cut : (sizes l : List ℕ) → concat_map (λ m. m) (cut sizes l) ≡ take (total self sizes) l
 joined_cut [] l = refl
-joined_cut (n ∷ sizes) l = ap (λ m. take n l ++ m) (joined_cut sizes (drop n l)) ∙ sym (take_more n (total self sizes) l)
+joined_cut (n ∷ sizes) l = ap (λ m. take n l ++ m) (joined_cut sizes (drop n l)) ∙ sym (take_sum n (total self sizes) l)
 
 pub sizes_cut : (sizes l : List ℕ) → total self sizes ≤ length l → map (λ (m : List ℕ). length m) (cut sizes l) ≡ sizes
 sizes_cut [] l h = refl
