@@ -27,6 +27,12 @@ part_then n k next l m h e =
 pub word_then : (n : ℕ) (l m : List ℕ) → n < length l → drop (n + 1) l ≡ m → drop n l ≡ get_or l n 0 ∷ m
 word_then n l m h e = rest_more 0 l n h ∙ ap (λ b. get_or l n 0 ∷ b) e
 
+-- the word that stands at a place
+pub word_at : (n : ℕ) (l : List ℕ) (x : ℕ) (m : List ℕ) → drop n l ≡ x ∷ m → get_or l n 0 ≡ x
+word_at zero l x m e = ap (λ k. get_or k 0 0) e
+word_at (suc n) [] x m e = ap (λ k. get_or k 0 0) e
+word_at (suc n) (y ∷ l) x m e = word_at n l x m e
+
 -- the parts of a front
 pub part_append : (k n : ℕ) (a b : List ℕ) → k + n ≤ length a → part k n (a ++ b) ≡ part k n a
 part_append k n a b h =

@@ -148,6 +148,10 @@ pub each_of : (l : List Bool) → all_of l ≡ true → Every Passed l
 each_of [] h = tt
 each_of (b ∷ l) h = (and_left b (all_of l) h, each_of l (and_right b (all_of l) h))
 
+pub all_passed : (l : List Bool) → Every Passed l → all_of l ≡ true
+all_passed [] v = refl
+all_passed (b ∷ l) v = and_both b (all_of l) v.0 (all_passed l v.1)
+
 pub every_concat_map : {A B : Type 0} (P : B → Type 0) (f : A → List B) → ((x : A) → Every P (f x)) → (l : List A) → Every P (concat_map f l)
 every_concat_map P f h [] = tt
 every_concat_map P f h (x ∷ l) = every_append P (f x) (concat_map f l) (h x) (every_concat_map P f h l)

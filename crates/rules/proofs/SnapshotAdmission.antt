@@ -8,6 +8,7 @@ use native.Mathlib.Omega.{arith}
 use borrow.Author.Tests.{leb-true, eqb-true}
 use lib.ListN.{length, drop, length-map, length-drop}
 use lib.Seq.{take_all}
+use Rattle.std.proofs.lemmas.List.{nil_from_length}
 use Rattle.lists.specs.Lists.{total, concat_map, zip_by, self, part}
 use Rattle.lists.proofs.Keep.{each_of}
 use Rattle.lists.proofs.Cuts.{part_length}
@@ -24,13 +25,9 @@ record Unzipped (is fs ks : List ℕ) (ts : List (List ℕ)) (gs : List Edge) : 
   pub kinds : map kind_of gs ≡ ks
   pub tos : map to_of gs ≡ ts
 
-none : {A : Type 0} (l : List A) → length l ≡ 0 → [] ≡ l
-none [] h = refl
-none (x ∷ l) h = absurd (omega (arith, h))
-
 unzip : (is fs ks : List ℕ) (ts : List (List ℕ)) → length fs ≡ length is → length ks ≡ length is → length ts ≡ length is →
     Unzipped is fs ks ts (zip_by with (zip_by with (zip_by edge is fs) ks) ts)
-unzip [] fs ks ts f k t = record { ids = refl; froms = none fs f; kinds = none ks k; tos = none ts t }
+unzip [] fs ks ts f k t = record { ids = refl; froms = sym (nil_from_length fs f); kinds = sym (nil_from_length ks k); tos = sym (nil_from_length ts t) }
 unzip (i ∷ is) [] ks ts f k t = absurd (omega (arith, f))
 unzip (i ∷ is) (x ∷ fs) [] ts f k t = absurd (omega (arith, k))
 unzip (i ∷ is) (x ∷ fs) (y ∷ ks) [] f k t = absurd (omega (arith, t))

@@ -10,7 +10,7 @@ use lib.Dec.{eqb, leb}
 use lib.ListN.{length, drop, replicate, length-map, length-replicate}
 use Rattle.lists.specs.Lists.{all, filled, has, Every, ascending, self}
 use Rattle.lists.proofs.Tests.{and_left, and_right}
-use Rattle.lists.proofs.Keep.{every_all, every_map, every_unmap, every_more, each_of}
+use Rattle.lists.proofs.Keep.{every_all, every_map, every_unmap, every_more, Passed, each_of}
 use Rattle.lists.proofs.Order.{ascending_test}
 use Rattle.lists.proofs.Parts.{every_take, every_drop, every_cut, every_both}
 use Rattle.lists.proofs.Zip.{length_cut}
@@ -48,6 +48,14 @@ module _ (ws : List ℕ) where
       ∷ ascending absence_key (entry_in ws).absences
       ∷ marks_fit (entry_in ws).part local (entry_in ws).terms (entry_in ws).marks (entry_in ws).returned
       ∷ []
+
+  pub limits : entry_formed ws ≡ true → Every Passed form_tests
+  unfolding entry_formed
+  limits f = each_of form_tests f
+
+  pub tests : (local : ℕ) → entry_sound local ws ≡ true → Every Passed (rest_tests local)
+  unfolding entry_sound
+  tests local s = each_of (rest_tests local) s
 
 -- nothing is listed
 bare : {A : Type 0} (l : List A) → not (filled l) ≡ true → l ≡ []
@@ -89,20 +97,15 @@ module _ (local : ℕ) (ws : List ℕ) (v : Every (Holds is_word) ws) (f : entry
   abbrev hs : List ℕ
   hs = history_of ws
 
-  tests : Every (λ b. b ≡ true) (rest_tests ws local)
-  unfolding entry_sound
-  tests = each_of (rest_tests ws local) s
-
-  limits : Every (λ b. b ≡ true) (form_tests ws)
-  unfolding entry_formed
-  limits = each_of (form_tests ws) f
+  abbrev t : Every Passed (rest_tests ws local)
+  t = tests ws local s
 
   few_absences : length (entry_in ws).absences ≤ 8
   unfolding entry_in
   few_absences =
       omega (
         arith,
-        leb-true (absence_count hs) 8 limits.1.1.1.1.0,
+        leb-true (absence_count hs) 8 (limits ws f).1.1.1.1.0,
         length-map (absence_parts hs) absence_in,
         length_cut (replicate (absence_count hs) 2) (drop 5 hs),
         length-replicate {A = ℕ} (absence_count hs) 2,
@@ -111,7 +114,7 @@ module _ (local : ℕ) (ws : List ℕ) (v : Every (Holds is_word) ws) (f : entry
   absences-good : Every GoodAbsence (entry_in ws).absences
   unfolding entry_in
   absences-good =
-      let shards = every_unmap absence_in (λ a. is_shard a.shard ≡ true) (absence_parts hs) (every_all (λ (a : Absence). is_shard a.shard) (entry_in ws).absences tests.1.1.1.1.1.1.1.1.0) in
+      let shards = every_unmap absence_in (λ a. is_shard a.shard ≡ true) (absence_parts hs) (every_all (λ (a : Absence). is_shard a.shard) (entry_in ws).absences t.1.1.1.1.1.1.1.1.0) in
       let keys = every_cut (Holds is_word) 2 (replicate (absence_count hs) 2) (drop 5 hs) (every-replicate (λ n. leb n 2 ≡ true) (absence_count hs) 2 refl) (every_drop (Holds is_word) 5 hs (every_drop (Holds is_word) (admission_length ws) ws v)) in
       every_map absence_in GoodAbsence (absence_parts hs)
       (every_more _ _ (λ m k. record { shard = k.0; key = words-at 1 m k.1.1 }) (absence_parts hs) (every_both _ _ (absence_parts hs) shards keys))
@@ -120,13 +123,13 @@ module _ (local : ℕ) (ws : List ℕ) (v : Every (Holds is_word) ws) (f : entry
   unfolding entry_in
   entry-good =
       record {
-        terms = terms-good (admission_of ws) (every_take (Holds is_word) (admission_length ws) ws v) (formed (admission_of ws) tests.0) tests.1.0 tests.1.1.0;
-        certificate = leb-true (word 1 hs) 2 tests.1.1.1.1.1.0;
-        departed_by = tests.1.1.1.1.1.1.0;
+        terms = terms-good (admission_of ws) (every_take (Holds is_word) (admission_length ws) ws v) (formed (admission_of ws) t.0) t.1.0 t.1.1.0;
+        certificate = leb-true (word 1 hs) 2 t.1.1.1.1.1.0;
+        departed_by = t.1.1.1.1.1.1.0;
         absence_count = few_absences;
         absences = absences-good;
-        absence_order = ascending_test absence_key (entry_in ws).absences tests.1.1.1.1.1.1.1.1.1.0;
-        part = part-good (entry_in ws).part local (decomposed (admission_of ws)) (entry_in ws).terms (entry_in ws).marks (entry_in ws).returned tests.1.1.1.1.0 tests.1.1.1.1.1.1.1.1.1.1.0;
+        absence_order = ascending_test absence_key (entry_in ws).absences t.1.1.1.1.1.1.1.1.1.0;
+        part = part-good (entry_in ws).part local (decomposed (admission_of ws)) (entry_in ws).terms (entry_in ws).marks (entry_in ws).returned t.1.1.1.1.0 t.1.1.1.1.1.1.1.1.1.1.0;
       }
 
 -- a departure

@@ -48,7 +48,7 @@ zip_back : (gs : List Edge) → zip_by with (zip_by with (zip_by edge (map id_of
 zip_back [] = refl
 zip_back (g ∷ gs) = ap (λ m. g ∷ m) (zip_back gs)
 
-sizes-within : (gs : List Edge) → Every GoodEdge gs → Every (λ g. leb (size_of g) max_destinations ≡ true) gs
+pub sizes-within : (gs : List Edge) → Every GoodEdge gs → Every (λ g. leb (size_of g) max_destinations ≡ true) gs
 sizes-within gs v = every_more GoodEdge (λ g. leb (size_of g) max_destinations ≡ true) (λ g x. le-leb (size_of g) max_destinations x.to.size) gs v
 
 kinds-within : (gs : List Edge) → Every GoodEdge gs → Every (λ g. leb g.kind 1 ≡ true) gs
