@@ -2,13 +2,14 @@
 -- Assumes nothing.
 use Prim.Native.Nat.{ℕ, zero, suc, ◌+◌, ◌*◌, ◌≤◌, ◌<◌}
 use mathlib.Core.Path.{◌≡◌, refl, sym, ap, ap₂, ◌∙◌}
-use mathlib.Core.List.{List, [], ◌∷◌, ◌++◌, map, append_assoc}
+use mathlib.Core.List.{List, [], ◌∷◌, ◌++◌, map, map-map, append_assoc}
 use native.Mathlib.Nat.{mul-suc, suc-add}
 use native.Mathlib.Omega.{arith}
 use lib.ListN.{length, take, drop, get_or, replicate, length-append, length-drop, take-append-drop, length-replicate}
 use lib.Seq.{take_at, take-append_seam, drop-append_seam, drop-drop, length-take-le, take-append-le, drop-append-le, take-nil}
 use Rattle.lists.specs.Lists.{Every, total, concat_map, self, part, cut, rows}
 use Rattle.lists.proofs.Cuts.{rest_more}
+use Rattle.lists.proofs.Parts.{every_take, every_drop}
 use Rattle.lists.proofs.Zip.{length_cut}
 
 -- the rest behind a part
@@ -63,7 +64,7 @@ module _ {A : Type 0} (f : A → List ℕ) where
     rows_joined xs rest = rw (one_size xs) at (cut_joined xs rest)
 
 -- the lists, end to end
-pub concat_map-map : {A B : Type 0} (f : A → List B) (xs : List A) → concat_map (λ m. m) (map f xs) ≡ concat_map f xs
+concat_map-map : {A B : Type 0} (f : A → List B) (xs : List A) → concat_map (λ m. m) (map f xs) ≡ concat_map f xs
 concat_map-map f [] = refl
 concat_map-map f (x ∷ xs) = ap (λ m. f x ++ m) (concat_map-map f xs)
 
@@ -73,11 +74,11 @@ take_sum zero n l = ap (λ k. take k l) (let z : 0 + n ≡ n = omega arith in z)
 take_sum (suc m) n [] = rw (suc-add m n) (sym (take-nil n))
 take_sum (suc m) n (x ∷ l) = rw (suc-add m n) (ap (λ k. x ∷ k) (take_sum m n l))
 
-pub joined_cut : (sizes l : List ℕ) → concat_map (λ m. m) (cut sizes l) ≡ take (total self sizes) l
+joined_cut : (sizes l : List ℕ) → concat_map (λ m. m) (cut sizes l) ≡ take (total self sizes) l
 joined_cut [] l = refl
 joined_cut (n ∷ sizes) l = ap (λ m. take n l ++ m) (joined_cut sizes (drop n l)) ∙ sym (take_sum n (total self sizes) l)
 
-pub sizes_cut : (sizes l : List ℕ) → total self sizes ≤ length l → map (λ (m : List ℕ). length m) (cut sizes l) ≡ sizes
+sizes_cut : (sizes l : List ℕ) → total self sizes ≤ length l → map (λ (m : List ℕ). length m) (cut sizes l) ≡ sizes
 sizes_cut [] l h = refl
 sizes_cut (n ∷ sizes) l h = ap₂ (λ m ms. m ∷ ms) (length-take-le n l (omega arith)) (sizes_cut sizes (drop n l) (omega (arith, h, length-drop n l)))
 
@@ -87,9 +88,6 @@ total-replicate (suc n) k = rw (total-replicate n k, mul-suc k n) (omega arith)
 
 pub length_rows : (k n : ℕ) (l : List ℕ) → length (rows k n l) ≡ n
 length_rows k n l = length_cut (replicate n k) l ∙ length-replicate n k
-
-pub joined_rows : (k n : ℕ) (l : List ℕ) → concat_map (λ m. m) (rows k n l) ≡ take (k * n) l
-joined_rows k n l = rw (total-replicate n k) at (joined_cut (replicate n k) l)
 
 pub every_row : (k n : ℕ) (l : List ℕ) → k * n ≤ length l → Every (λ m. length m ≡ k) (rows k n l)
 every_row k n l h = go n l (rw (sym (total-replicate n k)) at h)
@@ -102,3 +100,16 @@ every_row k n l h = go n l (rw (sym (total-replicate n k)) at h)
 pub map_back : {A B : Type 0} (f : A → B) (g : B → A) (xs : List A) → Every (λ x. g (f x) ≡ x) xs → map g (map f xs) ≡ xs
 map_back f g [] v = refl
 map_back f g (x ∷ xs) v = ap₂ (λ y ys. y ∷ ys) v.0 (map_back f g xs v.1)
+
+-- What is read of the pieces, and written again, has their sizes and is what was cut.
+module _ {A : Type 0} (f : A → List ℕ) (xs : List A) (sizes l : List ℕ) (same : map f xs ≡ cut sizes l) where
+  pub sizes_again : total self sizes ≤ length l → map (λ x. length (f x)) xs ≡ sizes
+  sizes_again h = sym (map-map (λ (m : List ℕ). length m) f xs) ∙ ap (map (λ (m : List ℕ). length m)) same ∙ sizes_cut sizes l h
+
+  pub joined_again : concat_map f xs ≡ take (total self sizes) l
+  joined_again = sym (concat_map-map f xs) ∙ ap (concat_map (λ m. m)) same ∙ joined_cut sizes l
+
+-- what holds of each word holds of those of each piece
+pub every_piece : (P : ℕ → Type 0) (sizes l : List ℕ) → Every P l → Every (Every P) (cut sizes l)
+every_piece P [] l v = tt
+every_piece P (n ∷ sizes) l v = (every_take P n l v, every_piece P sizes (drop n l) (every_drop P n l v))

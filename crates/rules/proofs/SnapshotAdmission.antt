@@ -3,7 +3,7 @@
 use Prim.Native.Nat.{ℕ, ◌+◌, ◌*◌, ◌≤◌}
 use mathlib.Core.Path.{◌≡◌, refl, sym, ap, ◌∙◌}
 use mathlib.Core.Bool.{true}
-use mathlib.Core.List.{List, [], ◌∷◌, ◌++◌, map, map-map}
+use mathlib.Core.List.{List, [], ◌∷◌, ◌++◌, map}
 use native.Mathlib.Omega.{arith}
 use borrow.Author.Tests.{leb-true, eqb-true}
 use lib.ListN.{length, drop, length-map, length-drop}
@@ -13,7 +13,7 @@ use Rattle.lists.specs.Lists.{total, concat_map, zip_by, self, part}
 use Rattle.lists.proofs.Keep.{each_of}
 use Rattle.lists.proofs.Cuts.{part_length}
 use Rattle.lists.proofs.Zip.{length_cut}
-use Rattle.lists.proofs.Joined.{part_then, word_then, concat_map-map, joined_cut, sizes_cut}
+use Rattle.lists.proofs.Joined.{part_then, word_then, sizes_again, joined_again}
 use Rattle.rules.specs.Plain.{Edge}
 use Rattle.rules.specs.Words.{word, edge, with, route_count, core_count, edge_count, decomposed, routes_at, edges_at, destinations_at, core_in, sizes, kinds, froms, destinations, edges_in, admission_terms, admission_tests, admission_formed, admission_words}
 use Rattle.rules.proofs.Written.{id_of, from_of, kind_of, to_of, size_of}
@@ -79,17 +79,11 @@ module _ (a : List ℕ) (f : admission_formed a ≡ true) where
   to-room = length-drop (destinations_at a) a ∙ omega (arith, size)
 
   sizes-back : map size_of (edges_in a) ≡ sizes a
-  sizes-back =
-      sym (map-map (λ (m : List ℕ). length m) to_of (edges_in a))
-      ∙ ap (map (λ (m : List ℕ). length m)) unzipped.tos
-      ∙ sizes_cut (sizes a) to (omega (arith, to-room))
+  sizes-back = sizes_again to_of (edges_in a) (sizes a) to unzipped.tos (omega (arith, to-room))
 
   tos-back : concat_map to_of (edges_in a) ≡ to
   tos-back =
-      sym (concat_map-map to_of (edges_in a))
-      ∙ ap (concat_map (λ (m : List ℕ). m)) unzipped.tos
-      ∙ joined_cut (sizes a) to
-      ∙ take_all (total self (sizes a)) to (omega (arith, to-room))
+      joined_again to_of (edges_in a) (sizes a) to unzipped.tos ∙ take_all (total self (sizes a)) to (omega (arith, to-room))
 
   -- part by part
   at-sizes : drop (edges_at a + 3 * e) a ≡ sizes a ++ to

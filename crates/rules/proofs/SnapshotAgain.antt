@@ -7,14 +7,14 @@ use mathlib.Core.List.{List, [], ◌∷◌, ◌++◌, map}
 use native.Mathlib.Omega.{arith}
 use borrow.Author.Tests.{leb-true, eqb-true}
 use lib.Dec.{eqb}
-use lib.ListN.{length, drop, length-map, length-drop, take-append-drop}
+use lib.ListN.{length, replicate, drop, length-map, length-drop, take-append-drop}
 use lib.Seq.{take_all}
 use Rattle.std.proofs.lemmas.List.{nil_from_length}
 use Rattle.lists.specs.Lists.{concat_map, part}
 use Rattle.lists.proofs.Tests.{and_left}
 use Rattle.lists.proofs.Keep.{every_more, each_of}
 use Rattle.lists.proofs.Cuts.{part_length}
-use Rattle.lists.proofs.Joined.{part_then, word_then, concat_map-map, length_rows, joined_rows, every_row, map_back}
+use Rattle.lists.proofs.Joined.{part_then, word_then, length_rows, total-replicate, joined_again, every_row, map_back}
 use Rattle.rules.specs.Plain.{Part, whole, leg, core, remainder, part_number, Terms}
 use Rattle.rules.specs.Words.{word, decomposed, admission_words}
 use Rattle.rules.specs.Outcome.{yes_no}
@@ -54,11 +54,9 @@ module _ (hs : List ℕ) (size : length hs ≡ history_length hs) where
 
   absences-again : concat_map absence_words (map absence_in (absence_parts hs)) ≡ part 5 (2 * n) hs
   absences-again =
-      sym (concat_map-map absence_words (map absence_in (absence_parts hs)))
-      ∙ ap (concat_map (λ (m : List ℕ). m))
-      (map_back absence_in absence_words (absence_parts hs)
-      (every_more (λ m. length m ≡ 2) (λ m. absence_words (absence_in m) ≡ m) absence-again (absence_parts hs) (every_row 2 n (drop 5 hs) (omega (arith, size, length-drop 5 hs)))))
-      ∙ joined_rows 2 n (drop 5 hs)
+      let same = map_back absence_in absence_words (absence_parts hs)
+      (every_more (λ m. length m ≡ 2) (λ m. absence_words (absence_in m) ≡ m) absence-again (absence_parts hs) (every_row 2 n (drop 5 hs) (omega (arith, size, length-drop 5 hs)))) in
+      joined_again absence_words (map absence_in (absence_parts hs)) (replicate n 2) (drop 5 hs) same ∙ ap (λ k. part 5 k hs) (total-replicate n 2)
 
   at-marks : drop (marks_at hs + 1) hs ≡ marks_in hs
   at-marks = sym (take_all (mark_count hs) (drop (marks_at hs + 1) hs) (omega (arith, size, length-drop (marks_at hs + 1) hs)))

@@ -7,13 +7,13 @@ use mathlib.Core.List.{List, [], ◌∷◌}
 use native.Mathlib.Omega.{arith}
 use borrow.Author.Tests.{leb-true, not-true, ne_eqb}
 use lib.Dec.{eqb, leb}
-use lib.ListN.{length, drop, replicate, length-map, length-replicate}
+use lib.ListN.{length, drop, replicate, length-map}
 use Rattle.lists.specs.Lists.{all, filled, has, Every, ascending, self}
 use Rattle.lists.proofs.Tests.{and_left, and_right}
 use Rattle.lists.proofs.Keep.{every_all, every_map, every_unmap, every_more, Passed, each_of}
 use Rattle.lists.proofs.Order.{ascending_test}
-use Rattle.lists.proofs.Parts.{every_take, every_drop, every_cut, every_both}
-use Rattle.lists.proofs.Zip.{length_cut}
+use Rattle.lists.proofs.Parts.{every_take, every_drop, every_both}
+use Rattle.lists.proofs.Joined.{length_rows, every_piece}
 use Rattle.rules.specs.Numbers.{is_word, is_time, is_shard}
 use Rattle.rules.specs.Plain.{Part, whole, leg, core, remainder, Terms, Absence, absence_key, issues}
 use Rattle.rules.specs.Words.{word, within, route_count, core_count, edge_count, sizes, decomposed, admission_formed, admission_timed, admission_placed}
@@ -89,10 +89,6 @@ part-good remainder local d t marks b h k =
     let rest = and_right (eqb d 1) _ h in
     (and_left (has self local t.core_shards) _ rest, and_right (has self local t.core_shards) _ rest, some_marked local t marks b k)
 
-every-replicate : {A : Type 0} (P : A → Type 0) (n : ℕ) (x : A) → P x → Every P (replicate n x)
-every-replicate P zero x h = tt
-every-replicate P (suc n) x h = (h, every-replicate P n x h)
-
 module _ (local : ℕ) (ws : List ℕ) (v : Every (Holds is_word) ws) (f : entry_formed ws ≡ true) (s : entry_sound local ws ≡ true) where
   abbrev hs : List ℕ
   hs = history_of ws
@@ -107,17 +103,16 @@ module _ (local : ℕ) (ws : List ℕ) (v : Every (Holds is_word) ws) (f : entry
         arith,
         leb-true (absence_count hs) 8 (limits ws f).1.1.1.1.0,
         length-map (absence_parts hs) absence_in,
-        length_cut (replicate (absence_count hs) 2) (drop 5 hs),
-        length-replicate {A = ℕ} (absence_count hs) 2,
+        length_rows 2 (absence_count hs) (drop 5 hs),
       )
 
   absences-good : Every GoodAbsence (entry_in ws).absences
   unfolding entry_in
   absences-good =
       let shards = every_unmap absence_in (λ a. is_shard a.shard ≡ true) (absence_parts hs) (every_all (λ (a : Absence). is_shard a.shard) (entry_in ws).absences t.1.1.1.1.1.1.1.1.0) in
-      let keys = every_cut (Holds is_word) 2 (replicate (absence_count hs) 2) (drop 5 hs) (every-replicate (λ n. leb n 2 ≡ true) (absence_count hs) 2 refl) (every_drop (Holds is_word) 5 hs (every_drop (Holds is_word) (admission_length ws) ws v)) in
+      let keys = every_piece (Holds is_word) (replicate (absence_count hs) 2) (drop 5 hs) (every_drop (Holds is_word) 5 hs (every_drop (Holds is_word) (admission_length ws) ws v)) in
       every_map absence_in GoodAbsence (absence_parts hs)
-      (every_more _ _ (λ m k. record { shard = k.0; key = words-at 1 m k.1.1 }) (absence_parts hs) (every_both _ _ (absence_parts hs) shards keys))
+      (every_more _ _ (λ m k. record { shard = k.0; key = words-at 1 m k.1 }) (absence_parts hs) (every_both _ _ (absence_parts hs) shards keys))
 
   pub entry-good : GoodEntry local (entry_in ws)
   unfolding entry_in

@@ -10,7 +10,7 @@ use lib.Dec.{ltb, leb}
 use lib.ListN.{length, drop, length-map, length-append}
 use Rattle.lists.specs.Lists.{total, concat_map, zip_by, self, part, cut, Every, ascending}
 use Rattle.lists.proofs.Tests.{and_right}
-use Rattle.lists.proofs.Keep.{all_every, every_append, every_map, every_more}
+use Rattle.lists.proofs.Keep.{all_every, every_append, every_map, every_more, every_concat_map}
 use Rattle.lists.proofs.Order.{test_ascending}
 use Rattle.lists.proofs.Joined.{behind, stands_at, cut_joined, length_joined}
 use Rattle.rules.specs.Numbers.{is_word, is_time, is_shard, max_routes, max_core, max_edges, max_destinations}
@@ -19,10 +19,10 @@ use Rattle.rules.specs.Words.{edge, with, sizes, kinds, froms, core_in, destinat
 use Rattle.rules.specs.Good.{Holds, GoodEdge, GoodTerms}
 
 -- small numbers, times and shards are words
-small_word : (n : ℕ) → n ≤ 8 → is_word n ≡ true
+pub small_word : (n : ℕ) → n ≤ 119 → is_word n ≡ true
 small_word n h = lt-ltb n (2 ^ 64) (omega arith)
 
-time_word : (n : ℕ) → is_time n ≡ true → is_word n ≡ true
+pub time_word : (n : ℕ) → is_time n ≡ true → is_word n ≡ true
 time_word n h = lt-ltb n (2 ^ 64) (omega (arith, ltb-true n (2 ^ 48) h))
 
 pub shard-word : (n : ℕ) → is_shard n ≡ true → is_word n ≡ true
@@ -61,8 +61,8 @@ from-shards : (gs : List Edge) → Every GoodEdge gs → Every (λ g. is_shard g
 from-shards gs v = every_more GoodEdge (λ g. is_shard g.from ≡ true) (λ g x. x.from) gs v
 
 to-shards : (gs : List Edge) → Every GoodEdge gs → Every (Holds is_shard) (concat_map to_of gs)
-to-shards [] v = tt
-to-shards (g ∷ gs) v = every_append (Holds is_shard) g.to (concat_map to_of gs) v.0.to.each (to-shards gs v.1)
+to-shards gs v =
+    every_concat_map (Holds is_shard) to_of gs (every_more GoodEdge (λ g. Every (Holds is_shard) g.to) (λ g x. x.to.each) gs v)
 
 edge-words : (f : Edge → ℕ) → ((h : Edge) → GoodEdge h → is_word (f h) ≡ true) → (gs : List Edge) → Every GoodEdge gs → Every (λ h. is_word (f h) ≡ true) gs
 edge-words f w gs v = every_more GoodEdge (λ h. is_word (f h) ≡ true) w gs v
@@ -224,4 +224,4 @@ module _ (d : ℕ) (t : Terms) where
         (every_more (Holds is_shard) (Holds is_word) shard-word (concat_map to_of gs) (to-shards gs g.edges))))) in
         let rest = every_append (Holds is_word) t.routes cored g.routes.each
         (every_append (Holds is_word) t.core_shards crossed (every_more (Holds is_shard) (Holds is_word) shard-word t.core_shards g.core_shards.each) each) in
-        (small_word r g.routes.size, (small_word c g.core_shards.size, (small_word e g.edge_count, (g.transaction, (time_word t.at g.at, (time_word t.end g.end, (time_word t.anchor g.anchor, (g.charge, (small_word d (omega (arith, leb-true d 1 b)), rest)))))))))
+        (small_word r (omega (arith, g.routes.size)), (small_word c (omega (arith, g.core_shards.size)), (small_word e (omega (arith, g.edge_count)), (g.transaction, (time_word t.at g.at, (time_word t.end g.end, (time_word t.anchor g.anchor, (g.charge, (small_word d (omega (arith, leb-true d 1 b)), rest)))))))))
