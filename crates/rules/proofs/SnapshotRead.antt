@@ -70,9 +70,12 @@ module _ (e : Entry) where
       ap (map absence_in) (rows_joined absence_words 2 (λ x. refl) e.absences (length e.marks ∷ e.marks))
       ∙ map_back absence_words absence_in e.absences (every_always (λ x. absence_in (absence_words x) ≡ x) (λ x. refl) e.absences)
 
+  pub history-length : length hs ≡ 6 + 2 * n + length e.marks
+  history-length = omega (arith, two, length-append (concat_map absence_words e.absences) (length e.marks ∷ e.marks))
+
   history-size : length hs ≡ history_length hs
   history-size =
-      rw mark_count-read (omega (arith, two, length-append (concat_map absence_words e.absences) (length e.marks ∷ e.marks)))
+      rw mark_count-read (omega (arith, history-length))
 
 part-read : (q : Part) → part_named (part_number q) ≡ q
 part-read whole = refl
@@ -80,7 +83,7 @@ part-read leg = refl
 part-read core = refl
 part-read remainder = refl
 
-part-number : (q : Part) → leb (part_number q) 3 ≡ true
+pub part-number : (q : Part) → leb (part_number q) 3 ≡ true
 part-number whole = refl
 part-number leg = refl
 part-number core = refl
@@ -90,12 +93,12 @@ flag-read : (b : Bool) → eqb (yes_no b) 1 ≡ b
 flag-read true = refl
 flag-read false = refl
 
-flag-number : (b : Bool) → leb (yes_no b) 1 ≡ true
+pub flag-number : (b : Bool) → leb (yes_no b) 1 ≡ true
 flag-number true = refl
 flag-number false = refl
 
 -- no more records are marked than are issued
-few_marks : (local : ℕ) (q : Part) (t : Terms) (marks : List ℕ) (b : Bool) → GoodTerms t → GoodPart q local t marks b → length marks ≤ 8
+pub few_marks : (local : ℕ) (q : Part) (t : Terms) (marks : List ℕ) (b : Bool) → GoodTerms t → GoodPart q local t marks b → length marks ≤ 8
 few_marks local q t marks b g h = go q h
   where
     among : Marked local t marks b → length marks ≤ 8
@@ -117,7 +120,7 @@ few_marks local q t marks b g h = go q h
     go core h = unmarked h.1
     go remainder h = among h.2
 
-decomposed-number : (q : Part) → leb (decomposed_word q) 1 ≡ true
+pub decomposed-number : (q : Part) → leb (decomposed_word q) 1 ≡ true
 decomposed-number whole = refl
 decomposed-number leg = refl
 decomposed-number core = refl

@@ -11,6 +11,7 @@ pub mod Readings
 pub mod Good
 pub mod Snapshot
 pub mod Reached
+pub mod Restored
 pub mod LeftOut
 pub mod Bundles
 pub mod Showing
