@@ -1,24 +1,24 @@
 -- One entry and one departure of a snapshot: what words that the reader lets pass give is good.
 -- Assumes nothing.
 use Prim.Native.Nat.{ℕ, zero, suc, ◌+◌, ◌≤◌}
-use mathlib.Core.Path.{◌≡◌, refl}
-use mathlib.Core.Bool.{Bool, true, false, not, ◌&&◌, ◌||◌, false≢true}
+use mathlib.Core.Path.{◌≡◌}
+use mathlib.Core.Bool.{Bool, true}
 use mathlib.Core.List.{List, [], ◌∷◌}
 use native.Mathlib.Omega.{arith}
-use borrow.Author.Tests.{leb-true, not-true, ne_eqb}
+use borrow.Author.Tests.{leb-true, ne_eqb}
 use lib.Dec.{eqb, leb}
 use lib.ListN.{length, drop, replicate, length-map}
-use Rattle.lists.specs.Lists.{all, filled, has, Every, ascending, self}
-use Rattle.lists.proofs.Tests.{and_left, and_right}
+use Rattle.lists.specs.Lists.{all, Every, ascending}
 use Rattle.lists.proofs.Keep.{every_all, every_map, every_unmap, every_more, Passed, each_of}
 use Rattle.lists.proofs.Order.{ascending_test}
 use Rattle.lists.proofs.Parts.{every_take, every_drop, every_both}
 use Rattle.lists.proofs.Joined.{length_rows, every_piece}
 use Rattle.rules.specs.Numbers.{is_word, is_time, is_shard}
-use Rattle.rules.specs.Plain.{Part, whole, leg, core, remainder, Terms, Absence, absence_key, issues}
+use Rattle.rules.specs.Plain.{Absence, absence_key}
 use Rattle.rules.specs.Words.{word, within, route_count, core_count, edge_count, sizes, decomposed, admission_formed, admission_timed, admission_placed}
-use Rattle.rules.specs.Good.{Holds, GoodAbsence, Unmarked, Marked, GoodPart, is_departed_by, GoodEntry, GoodStamp, GoodDeparture}
-use Rattle.rules.specs.Snapshot.{admission_length, admission_of, history_of, absence_count, mark_count, history_length, absence_parts, absence_in, entry_in, stamp_in, departure_in, entry_formed, part_fits, are_issued, marks_fit, entry_sound, until_fits, departure_sound}
+use Rattle.rules.specs.Good.{Holds, GoodAbsence, is_departed_by, GoodEntry, GoodStamp, GoodDeparture}
+use Rattle.rules.specs.Snapshot.{admission_length, admission_of, history_of, absence_count, mark_count, history_length, absence_parts, absence_in, entry_in, stamp_in, departure_in, entry_formed, part_fits, marks_fit, entry_sound, until_fits, departure_sound}
+use Rattle.rules.proofs.SnapshotParts.{part-good}
 use Rattle.rules.proofs.Taken.{words-at, formed, terms-good}
 
 -- The tests.
@@ -56,38 +56,6 @@ module _ (ws : List ℕ) where
   pub tests : (local : ℕ) → entry_sound local ws ≡ true → Every Passed (rest_tests local)
   unfolding entry_sound
   tests local s = each_of (rest_tests local) s
-
--- nothing is listed
-bare : {A : Type 0} (l : List A) → not (filled l) ≡ true → l ≡ []
-bare [] h = refl
-bare (x ∷ l) h = absurd (false≢true h)
-
--- the parts
-none_marked : (marks : List ℕ) (b : Bool) → not (filled marks) && not b ≡ true → Unmarked marks b
-none_marked marks b h = record { none = bare marks (and_left (not (filled marks)) (not b) h); returned = not-true b (and_right (not (filled marks)) (not b) h) }
-
-some_marked : (local : ℕ) (t : Terms) (marks : List ℕ) (b : Bool) → are_issued local t marks b ≡ true → Marked local t marks b
-some_marked local t marks b h =
-    let rest : all (λ r. issues local r t) marks && (not b || filled marks) ≡ true = and_right (ascending self marks) _ h in
-    record {
-      rising = ascending_test self marks (and_left (ascending self marks) _ h);
-      among = every_all (λ r. issues local r t) marks (and_left (all (λ r. issues local r t) marks) _ rest);
-      returned = go b (and_right (all (λ r. issues local r t) marks) _ rest);
-    }
-  where
-    go : (c : Bool) → not c || filled marks ≡ true → c ≡ true → filled marks ≡ true
-    go true q e = q
-    go false q e = absurd (false≢true e)
-
-part-good : (q : Part) (local d : ℕ) (t : Terms) (marks : List ℕ) (b : Bool) → part_fits q local d t ≡ true → marks_fit q local t marks b ≡ true → GoodPart q local t marks b
-part-good whole local d t marks b h k =
-    let rest = and_right (eqb d 0) _ h in
-    (bare t.core_shards (and_left (not (filled t.core_shards)) _ rest), bare t.edges (and_right (not (filled t.core_shards)) _ rest), none_marked marks b k)
-part-good leg local d t marks b h k = (not-true (has self local t.core_shards) (and_right (eqb d 1) _ h), some_marked local t marks b k)
-part-good core local d t marks b h k = (and_right (eqb d 1) _ h, none_marked marks b k)
-part-good remainder local d t marks b h k =
-    let rest = and_right (eqb d 1) _ h in
-    (and_left (has self local t.core_shards) _ rest, and_right (has self local t.core_shards) _ rest, some_marked local t marks b k)
 
 module _ (local : ℕ) (ws : List ℕ) (v : Every (Holds is_word) ws) (f : entry_formed ws ≡ true) (s : entry_sound local ws ≡ true) where
   abbrev hs : List ℕ

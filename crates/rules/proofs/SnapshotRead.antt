@@ -1,30 +1,28 @@
 -- One entry and one departure of a snapshot, written and read: they pass and are what was written.
 -- Assumes nothing.
-use Prim.Native.Nat.{ℕ, ◌+◌, ◌*◌, ◌≤◌}
+use Prim.Native.Nat.{ℕ, ◌+◌, ◌*◌}
 use mathlib.Core.Path.{◌≡◌, refl, sym, ap, ◌∙◌, subst}
-use mathlib.Core.Bool.{Bool, true, false, not, ◌&&◌, ◌||◌}
+use mathlib.Core.Bool.{true}
 use mathlib.Core.List.{List, ◌∷◌, ◌++◌, map}
 use mathlib.Core.Option.{Option, none, some}
 use native.Mathlib.Omega.{arith}
 use borrow.Author.Tests.{le-leb, eq-eqb}
-use lib.Dec.{eqb, leb}
-use lib.ListN.{length, drop, length-map, length-append}
+use lib.Dec.{leb}
+use lib.ListN.{length, drop, length-append}
 use lib.Seq.{take-append_seam, drop-append_seam, take_all}
-use Rattle.lists.specs.Lists.{all, filled, has, ascending, concat_map, self}
-use Rattle.lists.proofs.Tests.{and_both}
-use Rattle.lists.proofs.Keep.{length-keep, all_every, every_always, every_map, every_more, all_passed}
+use Rattle.lists.specs.Lists.{all, ascending, concat_map}
+use Rattle.lists.proofs.Keep.{all_every, every_always, every_map, every_more, all_passed}
 use Rattle.lists.proofs.Order.{test_ascending}
-use Rattle.lists.proofs.Room.{rising-within}
 use Rattle.lists.proofs.Cuts.{rest_tail}
 use Rattle.lists.proofs.Listing.{length-words}
 use Rattle.lists.proofs.Joined.{behind, word_at, part_append, rows_joined, map_back}
-use Rattle.rules.specs.Numbers.{is_shard, record_key}
-use Rattle.rules.specs.Plain.{Part, whole, leg, core, remainder, part_number, Edge, Terms, Absence, Entry, Departure, absence_key, edges_from, issued, issues, owes}
+use Rattle.rules.specs.Numbers.{is_shard}
+use Rattle.rules.specs.Plain.{Terms, Absence, Entry, Departure, absence_key}
 use Rattle.rules.specs.Words.{sizes, edges_at, decomposed, admission_words}
-use Rattle.rules.specs.Outcome.{yes_no}
-use Rattle.rules.specs.Good.{GoodTerms, GoodAbsence, Unmarked, Marked, GoodPart, is_departed_by, GoodEntry, GoodStamp, GoodDeparture}
-use Rattle.rules.specs.Snapshot.{decomposed_word, absence_words, history_words, entry_words, stamp_words, departure_words, admission_length, admission_of, history_of, mark_count, history_length, absence_parts, marks_in, part_named, absence_in, entry_in, departure_in, entry_formed, part_fits, are_issued, marks_fit, entry_sound, departure_sound}
+use Rattle.rules.specs.Good.{GoodAbsence, is_departed_by, GoodEntry, GoodStamp, GoodDeparture}
+use Rattle.rules.specs.Snapshot.{decomposed_word, absence_words, history_words, entry_words, stamp_words, departure_words, admission_length, admission_of, history_of, mark_count, history_length, absence_parts, marks_in, absence_in, entry_in, departure_in, entry_formed, part_fits, marks_fit, entry_sound, departure_sound}
 use Rattle.rules.proofs.Written.{size_of, sizes-within, sizes-read, size_is, terms-read, words_formed, words-timed, words_placed}
+use Rattle.rules.proofs.SnapshotParts.{part-read, part-number, flag-read, flag-number, few_marks, decomposed-number, part-fits, marks-fit}
 use Rattle.rules.proofs.SnapshotEntry.{form_tests, rest_tests}
 
 -- An admission's words with others behind them.
@@ -76,79 +74,6 @@ module _ (e : Entry) where
   history-size : length hs ≡ history_length hs
   history-size =
       rw mark_count-read (omega (arith, history-length))
-
-part-read : (q : Part) → part_named (part_number q) ≡ q
-part-read whole = refl
-part-read leg = refl
-part-read core = refl
-part-read remainder = refl
-
-pub part-number : (q : Part) → leb (part_number q) 3 ≡ true
-part-number whole = refl
-part-number leg = refl
-part-number core = refl
-part-number remainder = refl
-
-flag-read : (b : Bool) → eqb (yes_no b) 1 ≡ b
-flag-read true = refl
-flag-read false = refl
-
-pub flag-number : (b : Bool) → leb (yes_no b) 1 ≡ true
-flag-number true = refl
-flag-number false = refl
-
--- no more records are marked than are issued
-pub few_marks : (local : ℕ) (q : Part) (t : Terms) (marks : List ℕ) (b : Bool) → GoodTerms t → GoodPart q local t marks b → length marks ≤ 8
-few_marks local q t marks b g h = go q h
-  where
-    among : Marked local t marks b → length marks ≤ 8
-    among m =
-        omega (
-          arith,
-          g.edge_count,
-          rising-within marks (issued local t) m.rising m.among,
-          length-map (edges_from local t) (λ (g : Edge). record_key g.id),
-          length-keep (λ (g : Edge). eqb g.from local) t.edges,
-        )
-
-    unmarked : Unmarked marks b → length marks ≤ 8
-    unmarked u = omega (arith, ap length u.none)
-
-    go : (q : Part) → GoodPart q local t marks b → length marks ≤ 8
-    go whole h = unmarked h.2
-    go leg h = among h.1
-    go core h = unmarked h.1
-    go remainder h = among h.2
-
-pub decomposed-number : (q : Part) → leb (decomposed_word q) 1 ≡ true
-decomposed-number whole = refl
-decomposed-number leg = refl
-decomposed-number core = refl
-decomposed-number remainder = refl
-
--- a part that goes with an entry passes
-unmarked_fit : (marks : List ℕ) (b : Bool) → Unmarked marks b → not (filled marks) && not b ≡ true
-unmarked_fit marks b u = rw (u.none, u.returned)
-
-issued-fit : (local : ℕ) (t : Terms) (marks : List ℕ) (b : Bool) → Marked local t marks b → are_issued local t marks b ≡ true
-issued-fit local t marks b m =
-    rw (test_ascending self marks m.rising, all_every (λ r. issues local r t) marks m.among) (go b m.returned)
-  where
-    go : (c : Bool) → (c ≡ true → filled marks ≡ true) → not c || filled marks ≡ true
-    go true f = f refl
-    go false f = refl
-
-marks-fit : (local : ℕ) (q : Part) (t : Terms) (marks : List ℕ) (b : Bool) → GoodPart q local t marks b → marks_fit q local t marks b ≡ true
-marks-fit local whole t marks b h = unmarked_fit marks b h.2
-marks-fit local leg t marks b h = issued-fit local t marks b h.1
-marks-fit local core t marks b h = unmarked_fit marks b h.1
-marks-fit local remainder t marks b h = issued-fit local t marks b h.2
-
-part-fits : (local : ℕ) (q : Part) (t : Terms) (marks : List ℕ) (b : Bool) → GoodPart q local t marks b → part_fits q local (decomposed_word q) t ≡ true
-part-fits local whole t marks b h = rw (h.0, h.1)
-part-fits local leg t marks b h = rw h.0
-part-fits local core t marks b h = h.0
-part-fits local remainder t marks b h = and_both (has self local t.core_shards) (owes local t) h.0 h.1
 
 module _ (e : Entry) where
   abbrev ws : List ℕ

@@ -21,7 +21,8 @@ use Rattle.rules.specs.Outcome.{yes_no}
 use Rattle.rules.specs.Good.{Holds, GoodAbsence, GoodPart, is_departed_by, GoodEntry, GoodStamp, GoodDeparture, Good}
 use Rattle.rules.specs.Snapshot.{decomposed_word, absence_words, history_words, entry_words, stamp_words, departure_words, snapshot_words}
 use Rattle.rules.proofs.Written.{small_word, time_word, shard-word, size_of, sizes-within, size_is, words-words}
-use Rattle.rules.proofs.SnapshotRead.{decomposed-number, part-number, flag-number, few_marks, history-length}
+use Rattle.rules.proofs.SnapshotParts.{decomposed-number, part-number, flag-number, few_marks}
+use Rattle.rules.proofs.SnapshotRead.{history-length}
 use Rattle.rules.proofs.SnapshotWhole.{snapshot-length}
 
 -- a mark is a record's key, of 32 bits
