@@ -16,3 +16,4 @@ pub mod LeftOut
 pub mod Bundles
 pub mod Showing
 pub mod Instances
+pub mod Snapshots
