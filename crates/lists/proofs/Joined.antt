@@ -74,11 +74,11 @@ take_sum zero n l = ap (λ k. take k l) (let z : 0 + n ≡ n = omega arith in z)
 take_sum (suc m) n [] = rw (suc-add m n) (sym (take-nil n))
 take_sum (suc m) n (x ∷ l) = rw (suc-add m n) (ap (λ k. x ∷ k) (take_sum m n l))
 
-joined_cut : (sizes l : List ℕ) → concat_map (λ m. m) (cut sizes l) ≡ take (total self sizes) l
+pub joined_cut : (sizes l : List ℕ) → concat_map (λ m. m) (cut sizes l) ≡ take (total self sizes) l
 joined_cut [] l = refl
 joined_cut (n ∷ sizes) l = ap (λ m. take n l ++ m) (joined_cut sizes (drop n l)) ∙ sym (take_sum n (total self sizes) l)
 
-sizes_cut : (sizes l : List ℕ) → total self sizes ≤ length l → map (λ (m : List ℕ). length m) (cut sizes l) ≡ sizes
+pub sizes_cut : (sizes l : List ℕ) → total self sizes ≤ length l → map (λ (m : List ℕ). length m) (cut sizes l) ≡ sizes
 sizes_cut [] l h = refl
 sizes_cut (n ∷ sizes) l h = ap₂ (λ m ms. m ∷ ms) (length-take-le n l (omega arith)) (sizes_cut sizes (drop n l) (omega (arith, h, length-drop n l)))
 

@@ -20,7 +20,7 @@ use Rattle.rules.specs.Words.{word, decomposed, admission_words}
 use Rattle.rules.specs.Outcome.{yes_no}
 use Rattle.rules.specs.Snapshot.{decomposed_word, absence_words, entry_words, stamp_words, departure_words, admission_length, admission_of, history_of, absence_count, marks_at, mark_count, history_length, absence_parts, marks_in, part_named, absence_in, entry_in, stamp_in, departure_in, entry_formed, part_fits, entry_sound, until_fits, departure_sound}
 use Rattle.rules.proofs.SnapshotAdmission.{written_again}
-use Rattle.rules.proofs.SnapshotEntry.{tests, limits, departure_tests}
+use Rattle.rules.proofs.SnapshotEntry.{rest_passed, form_passed, departure_tests}
 
 -- small numbers that are read as something else
 number-again : (n : ℕ) → n ≤ 3 → part_number (part_named n) ≡ n
@@ -79,21 +79,21 @@ module _ (hs : List ℕ) (size : length hs ≡ history_length hs) where
       ) (sym (w 0 _ (omega arith) (w 1 _ (omega arith) (w 2 _ (omega arith) (w 3 _ (omega arith) (w 4 _ (omega arith) at-absences))))))
 
 module _ (local : ℕ) (ws : List ℕ) (f : entry_formed ws ≡ true) (s : entry_sound local ws ≡ true) where
-  abbrev hs' : List ℕ
-  hs' = history_of ws
+  abbrev past : List ℕ
+  past = history_of ws
 
-  history-size : length hs' ≡ history_length hs'
+  history-size : length past ≡ history_length past
   history-size =
-      let size = eqb-true (length ws) (admission_length ws + history_length hs') (limits ws f).1.1.1.1.1.1.0 in
+      let size = eqb-true (length ws) (admission_length ws + history_length past) (form_passed ws f).1.1.1.1.1.1.0 in
       length-drop (admission_length ws) ws ∙ omega (arith, size)
 
   pub entry-again : entry_words (entry_in ws) ≡ ws
   unfolding entry_words entry_in
   entry-again =
-      let t = tests ws local s in
+      let t = rest_passed ws local s in
       ap₂ (λ a b. a ++ b)
-      (ap (λ d. admission_words d (entry_in ws).terms) (decomposed-again (part_named (word 0 hs')) local (decomposed (admission_of ws)) (entry_in ws).terms t.1.1.1.1.0) ∙ written_again (admission_of ws) t.0)
-      (history_again hs' history-size (leb-true (word 0 hs') 3 t.1.1.1.0) (leb-true (word 3 hs') 1 t.1.1.1.1.1.1.1.0))
+      (ap (λ d. admission_words d (entry_in ws).terms) (decomposed-again (part_named (word 0 past)) local (decomposed (admission_of ws)) (entry_in ws).terms t.1.1.1.1.0) ∙ written_again (admission_of ws) t.0)
+      (history_again past history-size (leb-true (word 0 past) 3 t.1.1.1.0) (leb-true (word 3 past) 1 t.1.1.1.1.1.1.1.0))
       ∙ take-append-drop (admission_length ws) ws
 
 -- a departure

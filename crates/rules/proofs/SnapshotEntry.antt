@@ -49,27 +49,27 @@ module _ (ws : List ℕ) where
       ∷ marks_fit (entry_in ws).part local (entry_in ws).terms (entry_in ws).marks (entry_in ws).returned
       ∷ []
 
-  pub limits : entry_formed ws ≡ true → Every Passed form_tests
+  pub form_passed : entry_formed ws ≡ true → Every Passed form_tests
   unfolding entry_formed
-  limits f = each_of form_tests f
+  form_passed f = each_of form_tests f
 
-  pub tests : (local : ℕ) → entry_sound local ws ≡ true → Every Passed (rest_tests local)
+  pub rest_passed : (local : ℕ) → entry_sound local ws ≡ true → Every Passed (rest_tests local)
   unfolding entry_sound
-  tests local s = each_of (rest_tests local) s
+  rest_passed local s = each_of (rest_tests local) s
 
 module _ (local : ℕ) (ws : List ℕ) (v : Every (Holds is_word) ws) (f : entry_formed ws ≡ true) (s : entry_sound local ws ≡ true) where
   abbrev hs : List ℕ
   hs = history_of ws
 
   abbrev t : Every Passed (rest_tests ws local)
-  t = tests ws local s
+  t = rest_passed ws local s
 
   few_absences : length (entry_in ws).absences ≤ 8
   unfolding entry_in
   few_absences =
       omega (
         arith,
-        leb-true (absence_count hs) 8 (limits ws f).1.1.1.1.0,
+        leb-true (absence_count hs) 8 (form_passed ws f).1.1.1.1.0,
         length-map (absence_parts hs) absence_in,
         length_rows 2 (absence_count hs) (drop 5 hs),
       )
