@@ -2,7 +2,6 @@
 -- back. Local 4, V 100, C 50, L 200.
 use Rattle.std.specs.Prelude.{ℕ, zero, suc, ◌+◌, ◌-◌, ◌^◌, ◌≡◌, refl, List, [], ◌∷◌, ◌++◌, map, length, replicate}
 use Rattle.lists.specs.Lists.{concat_map}
-use Rattle.rules.specs.Numbers.{depth, owns}
 use Rattle.rules.specs.Words.{admission_terms, admission_formed, admission_timed, admission_placed, record_groups, record_formed, record_timed, finalization_lines, deciding, finalization_formed}
 use Rattle.rules.specs.Entries.{admitted}
 use Rattle.rules.specs.Outcome.{Outcome, said}
@@ -28,7 +27,7 @@ abbrev first : ℕ → List ℕ
 first zero = []
 first (suc n) = first n ++ (suc n ∷ [])
 
--- entries and departures put down as a snapshot; one of either
+-- entries and departures put down as a snapshot; one of either alone
 abbrev snapshot_of : List (List ℕ) → List (List ℕ) → List ℕ
 snapshot_of es ds =
     4 ∷ 100 ∷ 50 ∷ 200 ∷ 0 ∷ length es ∷ length ds ∷ (map (λ e. length e) es ++ (concat_map (λ e. e) es ++ concat_map (λ d. d) ds))
@@ -39,7 +38,7 @@ one e = snapshot_of (e ∷ []) []
 abbrev gone : List ℕ → List ℕ
 gone d = snapshot_of [] (d ∷ [])
 
--- transaction t, whole; transaction 9 with what is behind its sizes; its seven words after these
+-- transaction t, whole and by itself; the words of transaction 9 that stand behind an entry's three sizes
 abbrev whole_of : ℕ → List ℕ
 whole_of t = 0 ∷ 0 ∷ 0 ∷ t ∷ 1000 ∷ 2000 ∷ 10 ∷ 77 ∷ 0 ∷ 0 ∷ 0 ∷ 0 ∷ 0 ∷ 0 ∷ 0 ∷ []
 
@@ -60,14 +59,14 @@ routed n = n ∷ 0 ∷ 0 ∷ nine 0 ++ (replicate n 5 ++ history 0 0 0 0 [])
 abbrev absent : List (List ℕ) → List ℕ
 absent cells = 0 ∷ 0 ∷ 0 ∷ nine 0 ++ (0 ∷ 0 ∷ 0 ∷ 0 ∷ length cells ∷ (concat_map (λ a. a) cells ++ (0 ∷ [])))
 
--- a leg for shard 5 with records of these ids from local, of a kind; a core or what is left of it, its core these shards, with one record 7 from local of a kind
+-- a leg with core shard 5 that issues records of these ids; an entry with this core that issues record 7, of a kind
 abbrev leg_of : List ℕ → List ℕ → List ℕ
 leg_of ids past = 0 ∷ 1 ∷ length ids ∷ nine 1 ++ (5 ∷ ids ++ (replicate (length ids) 4 ++ (replicate (length ids) 0 ++ (replicate (length ids) 0 ++ past))))
 
 abbrev core_of : List ℕ → ℕ → List ℕ → List ℕ
 core_of shards kind past = 0 ∷ length shards ∷ 1 ∷ nine 1 ++ (shards ++ (7 ∷ 4 ∷ kind ∷ 0 ∷ past))
 
--- a leg for shard 5 with one record, its destinations these
+-- a leg with core shard 5 that issues record 7 to these shards
 abbrev sent_to : List ℕ → List ℕ
 sent_to shards = 0 ∷ 1 ∷ 1 ∷ nine 1 ++ (5 ∷ 7 ∷ 4 ∷ 0 ∷ length shards ∷ shards ++ history 1 0 0 0 [])
 
@@ -371,5 +370,5 @@ unwritten =
     ∷ []
 
 pub snapshots_hold : map (λ (r : Row). r.given) (snapshots ++ unwritten) ≡ map (λ (r : Row). r.stated) (snapshots ++ unwritten)
-unfolding depth owns admission_terms admission_formed admission_timed admission_placed record_groups record_formed record_timed finalization_lines deciding finalization_formed admitted making after_admission after_absence after_certify after_abandonment after_mark after_closes after_finalization after_terminal entry_words snapshot_words entry_in ledger_in entry_formed snapshot_formed entry_sound snapshot_sound restoring
+unfolding admission_terms admission_formed admission_timed admission_placed record_groups record_formed record_timed finalization_lines deciding finalization_formed admitted making after_admission after_absence after_certify after_abandonment after_mark after_closes after_finalization after_terminal entry_words snapshot_words entry_in ledger_in entry_formed snapshot_formed entry_sound snapshot_sound restoring
 snapshots_hold = refl
