@@ -1,12 +1,14 @@
 -- Laws of keeping, testing and counting over a list.
 -- Assumes nothing.
-use Prim.Native.Nat.{suc, ◌+◌, ◌≤◌}
+use Prim.Native.Nat.{ℕ, suc, ◌+◌, ◌≤◌}
 use mathlib.Core.Path.{◌≡◌, refl, sym, ap, ◌∙◌}
 use mathlib.Core.Bool.{Bool, true, false, cond, not, ◌||◌, ◌&&◌, false≢true}
 use mathlib.Core.List.{List, [], ◌∷◌, ◌++◌, map, append_assoc, Memᴰ}
 use native.Mathlib.Omega.{arith}
+use borrow.Author.Tests.{eqb-true}
+use lib.Dec.{eqb}
 use lib.ListN.{length}
-use Rattle.lists.specs.Lists.{cons_if, keep, any, all, change_if, Every, all_of, concat_map}
+use Rattle.lists.specs.Lists.{cons_if, keep, any, all, change_if, Every, all_of, concat_map, has, self}
 use Rattle.lists.proofs.Tests.{or_left, or_right, or_assoc, or_false, or_same, and_left, and_right, and_both}
 
 module _ {A : Type 0} where
@@ -148,9 +150,23 @@ pub each_of : (l : List Bool) → all_of l ≡ true → Every Passed l
 each_of [] h = tt
 each_of (b ∷ l) h = (and_left b (all_of l) h, each_of l (and_right b (all_of l) h))
 
-pub every_concat_map : {A B : Type 0} (P : B → Type 0) (f : A → List B) → ((x : A) → Every P (f x)) → (l : List A) → Every P (concat_map f l)
-every_concat_map P f h [] = tt
-every_concat_map P f h (x ∷ l) = every_append P (f x) (concat_map f l) (h x) (every_concat_map P f h l)
+pub all_passed : (l : List Bool) → Every Passed l → all_of l ≡ true
+all_passed [] v = refl
+all_passed (b ∷ l) v = and_both b (all_of l) v.0 (all_passed l v.1)
+
+-- what holds of all that f says of each
+pub every_concat_map : {A B : Type 0} (P : B → Type 0) (f : A → List B) (l : List A) → Every (λ x. Every P (f x)) l → Every P (concat_map f l)
+every_concat_map P f [] v = tt
+every_concat_map P f (x ∷ l) v = every_append P (f x) (concat_map f l) v.0 (every_concat_map P f l v.1)
+
+-- what holds of each holds of a number among them
+pub every-has : (P : ℕ → Type 0) (r : ℕ) (l : List ℕ) → Every P l → has self r l ≡ true → P r
+every-has P r [] v h = absurd (false≢true h)
+every-has P r (x ∷ l) v h = go (eqb x r) refl h (every-has P r l v.1)
+  where
+    go : (b : Bool) → eqb x r ≡ b → b || has self r l ≡ true → (has self r l ≡ true → P r) → P r
+    go true e k later = rw (eqb-true x r e) at v.0
+    go false e k later = later k
 
 pub concat_map-append : {A B : Type 0} (f : A → List B) (a b : List A) → concat_map f (a ++ b) ≡ concat_map f a ++ concat_map f b
 concat_map-append f [] b = refl

@@ -13,6 +13,7 @@ pub mod Pairs
 pub mod Picked
 pub mod Room
 pub mod Zip
+pub mod Joined
 pub mod Cuts
 pub mod Rows
 pub mod Counting

@@ -8,7 +8,8 @@ use lib.Dec.{eqb}
 use lib.ListN.{length, drop}
 use Rattle.lists.specs.Lists.{keep, Every, cut}
 use Rattle.lists.proofs.Keep.{every_keep, every_always, every_concat_map}
-use Rattle.lists.proofs.Parts.{every_take, every_drop, every_zip_by}
+use Rattle.lists.proofs.Joined.{every_piece}
+use Rattle.lists.proofs.Parts.{every_drop, every_zip_by}
 use Rattle.rules.specs.Numbers.{is_word}
 use Rattle.rules.specs.Plain.{Plain}
 use Rattle.rules.specs.Words.{word, transaction_size, transaction_at, Item, is_kind, items_at, item_kinds, item_lengths, items_written, bundle_items, finalization_formed}
@@ -57,14 +58,11 @@ item-ledger i p = ap (λ o. o.ledger) (item-step i p)
 abbrev pub OfWordsItem : Item → Type 0
 OfWordsItem i = Every (Holds is_word) i.words
 
-cut-words : (sizes ws : List ℕ) → Every (Holds is_word) ws → Every (Every (Holds is_word)) (cut sizes ws)
-cut-words [] ws v = tt
-cut-words (n ∷ ns) ws v = (every_take (Holds is_word) n ws v, cut-words ns (drop n ws) (every_drop (Holds is_word) n ws v))
-
 pub items-words : (ws : List ℕ) → Every (Holds is_word) ws → Every OfWordsItem (bundle_items ws)
 unfolding bundle_items
 items-words ws v =
-    every_concat_map OfWordsItem (λ k. keep (is_kind k) (items_written ws)) (λ k. every_keep OfWordsItem (is_kind k) (items_written ws) written) (1 ∷ 2 ∷ 3 ∷ 4 ∷ 5 ∷ [])
+    every_concat_map OfWordsItem (λ k. keep (is_kind k) (items_written ws)) (1 ∷ 2 ∷ 3 ∷ 4 ∷ 5 ∷ [])
+    (every_always (λ k. Every OfWordsItem (keep (is_kind k) (items_written ws))) (λ k. every_keep OfWordsItem (is_kind k) (items_written ws) written) (1 ∷ 2 ∷ 3 ∷ 4 ∷ 5 ∷ []))
   where
     joined : List ℕ
     joined = drop (items_at ws) ws
@@ -72,4 +70,4 @@ items-words ws v =
     written : Every OfWordsItem (items_written ws)
     written =
         every_zip_by (λ k. Unit {0}) (Every (Holds is_word)) OfWordsItem (λ (k : ℕ) (l : List ℕ). record { kind = k; words = l }) (λ k l _ w. w) (item_kinds ws)
-        (cut (item_lengths ws) joined) (every_always _ (λ k. tt) (item_kinds ws)) (cut-words (item_lengths ws) joined (every_drop (Holds is_word) (items_at ws) ws v))
+        (cut (item_lengths ws) joined) (every_always _ (λ k. tt) (item_kinds ws)) (every_piece (Holds is_word) (item_lengths ws) joined (every_drop (Holds is_word) (items_at ws) ws v))

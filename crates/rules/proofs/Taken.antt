@@ -23,7 +23,7 @@ pub words-at : (i : ℕ) (ws : List ℕ) → Every (Holds is_word) ws → is_wor
 words-at i ws v = every_get_d (Holds is_word) 0 i ws refl v
 
 -- the tests of an admission's form, one by one
-record Formed (ws : List ℕ) : Type 0 where
+pub record Formed (ws : List ℕ) : Type 0 where
   pub routes : route_count ws ≤ 8
   pub core : core_count ws ≤ 8
   pub edges : edge_count ws ≤ 8
@@ -32,7 +32,7 @@ record Formed (ws : List ℕ) : Type 0 where
   pub rising : Ascending self (core_in ws)
   pub destinations : Every (λ m. ascending self m ≡ true) (destinations ws)
 
-formed : (ws : List ℕ) → admission_formed ws ≡ true → Formed ws
+pub formed : (ws : List ℕ) → admission_formed ws ≡ true → Formed ws
 unfolding admission_formed
 formed ws h =
     let t = each_of (admission_tests ws) h in
@@ -101,7 +101,7 @@ module _ (ws : List ℕ) (v : Every (Holds is_word) ws) (f : Formed ws) (t : adm
         length-zip_by {B = List ℕ} with (zip_by with (zip_by edge ids (froms ws)) (kinds ws)) (destinations ws),
       )
 
-  terms-good : GoodTerms (admission_terms ws)
+  pub terms-good : GoodTerms (admission_terms ws)
   unfolding admission_terms admission_timed
   terms-good =
       let times = each_of (is_time (word (figures_at ws) ws) ∷ is_time (word (figures_at ws + 1) ws) ∷ is_time (word (figures_at ws + 2) ws) ∷ []) t in

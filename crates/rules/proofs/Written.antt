@@ -1,62 +1,54 @@
 -- An admission that says given terms: its words, that the table lets them pass, and that they are read back as these terms.
 -- Assumes nothing.
 use Prim.Native.Nat.{ℕ, ◌+◌, ◌*◌, ◌^◌, ◌≤◌}
-use mathlib.Core.Path.{◌≡◌, refl, sym, ap, ◌∙◌}
+use mathlib.Core.Path.{◌≡◌, refl, ap}
 use mathlib.Core.Bool.{true}
-use mathlib.Core.List.{List, [], ◌∷◌, ◌++◌, map}
+use mathlib.Core.List.{List, [], ◌∷◌, ◌++◌, map, append-nil}
 use native.Mathlib.Omega.{arith}
 use borrow.Author.Tests.{ltb-true, leb-true, lt-ltb, le-leb, eq-eqb}
 use lib.Dec.{ltb, leb}
-use lib.ListN.{length, take, drop, length-map, length-append}
-use lib.Seq.{take_at, take-append_seam, drop-append_seam, drop-drop}
+use lib.ListN.{length, drop, length-map, length-append}
 use Rattle.lists.specs.Lists.{total, concat_map, zip_by, self, part, cut, Every, ascending}
 use Rattle.lists.proofs.Tests.{and_right}
-use Rattle.lists.proofs.Keep.{all_every, every_append, every_map, every_more}
+use Rattle.lists.proofs.Keep.{all_every, every_append, every_map, every_more, every_concat_map}
 use Rattle.lists.proofs.Order.{test_ascending}
+use Rattle.lists.proofs.Joined.{behind, stands_at, cut_joined, length_joined}
 use Rattle.rules.specs.Numbers.{is_word, is_time, is_shard, max_routes, max_core, max_edges, max_destinations}
 use Rattle.rules.specs.Plain.{Edge, Terms}
 use Rattle.rules.specs.Words.{edge, with, sizes, kinds, froms, core_in, destinations, destinations_at, edges_in, admission_terms, admission_formed, admission_timed, admission_placed, admission_words}
 use Rattle.rules.specs.Good.{Holds, GoodEdge, GoodTerms}
 
 -- small numbers, times and shards are words
-small_word : (n : ℕ) → n ≤ 8 → is_word n ≡ true
+pub small_word : (n : ℕ) → n ≤ 119 → is_word n ≡ true
 small_word n h = lt-ltb n (2 ^ 64) (omega arith)
 
-time_word : (n : ℕ) → is_time n ≡ true → is_word n ≡ true
+pub time_word : (n : ℕ) → is_time n ≡ true → is_word n ≡ true
 time_word n h = lt-ltb n (2 ^ 64) (omega (arith, ltb-true n (2 ^ 48) h))
 
 pub shard-word : (n : ℕ) → is_shard n ≡ true → is_word n ≡ true
 shard-word n h = lt-ltb n (2 ^ 64) (omega (arith, ltb-true n (2 ^ 33) (and_right (leb 1 n) (ltb n (2 ^ 33)) h)))
 
 -- The edges as parallel arrays.
-abbrev id_of : Edge → ℕ
+abbrev pub id_of : Edge → ℕ
 id_of g = g.id
 
-abbrev from_of : Edge → ℕ
+abbrev pub from_of : Edge → ℕ
 from_of g = g.from
 
-abbrev kind_of : Edge → ℕ
+abbrev pub kind_of : Edge → ℕ
 kind_of g = g.kind
 
-abbrev to_of : Edge → List ℕ
+abbrev pub to_of : Edge → List ℕ
 to_of g = g.to
 
-abbrev size_of : Edge → ℕ
+abbrev pub size_of : Edge → ℕ
 size_of g = length g.to
-
-cut_joined : (gs : List Edge) → cut (map size_of gs) (concat_map to_of gs) ≡ map to_of gs
-cut_joined [] = refl
-cut_joined (g ∷ gs) = rw (take-append_seam g.to (concat_map to_of gs), drop-append_seam g.to (concat_map to_of gs), cut_joined gs)
 
 zip_back : (gs : List Edge) → zip_by with (zip_by with (zip_by edge (map id_of gs) (map from_of gs)) (map kind_of gs)) (map to_of gs) ≡ gs
 zip_back [] = refl
 zip_back (g ∷ gs) = ap (λ m. g ∷ m) (zip_back gs)
 
-joined_length : (gs : List Edge) → length (concat_map to_of gs) ≡ total self (map size_of gs)
-joined_length [] = refl
-joined_length (g ∷ gs) = length-append g.to (concat_map to_of gs) ∙ ap (λ n. length g.to + n) (joined_length gs)
-
-sizes-within : (gs : List Edge) → Every GoodEdge gs → Every (λ g. leb (size_of g) max_destinations ≡ true) gs
+pub sizes-within : (gs : List Edge) → Every GoodEdge gs → Every (λ g. leb (size_of g) max_destinations ≡ true) gs
 sizes-within gs v = every_more GoodEdge (λ g. leb (size_of g) max_destinations ≡ true) (λ g x. le-leb (size_of g) max_destinations x.to.size) gs v
 
 kinds-within : (gs : List Edge) → Every GoodEdge gs → Every (λ g. leb g.kind 1 ≡ true) gs
@@ -69,19 +61,11 @@ from-shards : (gs : List Edge) → Every GoodEdge gs → Every (λ g. is_shard g
 from-shards gs v = every_more GoodEdge (λ g. is_shard g.from ≡ true) (λ g x. x.from) gs v
 
 to-shards : (gs : List Edge) → Every GoodEdge gs → Every (Holds is_shard) (concat_map to_of gs)
-to-shards [] v = tt
-to-shards (g ∷ gs) v = every_append (Holds is_shard) g.to (concat_map to_of gs) v.0.to.each (to-shards gs v.1)
+to-shards gs v =
+    every_concat_map (Holds is_shard) to_of gs (every_more GoodEdge (λ g. Every (Holds is_shard) g.to) (λ g x. x.to.each) gs v)
 
 edge-words : (f : Edge → ℕ) → ((h : Edge) → GoodEdge h → is_word (f h) ≡ true) → (gs : List Edge) → Every GoodEdge gs → Every (λ h. is_word (f h) ≡ true) gs
 edge-words f w gs v = every_more GoodEdge (λ h. is_word (f h) ≡ true) w gs v
-
--- the rest behind a part
-behind : (n : ℕ) (l a b : List ℕ) → drop n l ≡ a ++ b → drop (n + length a) l ≡ b
-behind n l a b e = sym (drop-drop (length a) n l) ∙ ap (drop (length a)) e ∙ drop-append_seam a b
-
--- the part that stands at a place
-stands_at : (n k : ℕ) (l a b : List ℕ) → drop n l ≡ a ++ b → length a ≡ k → part n k l ≡ a
-stands_at n k l a b e h = ap (take k) e ∙ take_at a b k h
 
 -- The words.
 module _ (d : ℕ) (t : Terms) where
@@ -157,11 +141,14 @@ module _ (d : ℕ) (t : Terms) where
   kinds-read : kinds ws ≡ map kind_of gs
   kinds-read = stands_at (9 + r + c + 2 * e) e ws (map kind_of gs) sized kinds-rest (length-map gs kind_of)
 
-  sizes-read : sizes ws ≡ map size_of gs
+  pub sizes-read : sizes ws ≡ map size_of gs
   sizes-read = stands_at (9 + r + c + 3 * e) e ws (map size_of gs) (concat_map to_of gs) sizes-rest (length-map gs size_of)
 
+  to_cut : cut (map size_of gs) (concat_map to_of gs) ≡ map to_of gs
+  to_cut = rw append-nil at (cut_joined to_of gs [])
+
   to_read : destinations ws ≡ map to_of gs
-  to_read = rw (sizes-read, to-rest) (cut_joined gs)
+  to_read = rw (sizes-read, to-rest) to_cut
 
   edges-read : edges_in ws ≡ gs
   edges-read = rw (ids-read, froms-read, kinds-read, to_read) (zip_back gs)
@@ -170,25 +157,25 @@ module _ (d : ℕ) (t : Terms) where
   unfolding admission_terms
   terms-read = rw (routes-read, core-read, edges-read)
 
+  pub size_is : length ws ≡ destinations_at ws + total self (map size_of gs)
+  size_is =
+      omega (
+        arith,
+        length_joined to_of gs,
+        length-append t.routes cored,
+        length-append t.core_shards crossed,
+        length-append (map id_of gs) started,
+        length-append (map from_of gs) counted,
+        length-append (map kind_of gs) sized,
+        length-append (map size_of gs) (concat_map to_of gs),
+        length-map gs id_of,
+        length-map gs from_of,
+        length-map gs kind_of,
+        length-map gs size_of,
+      )
+
   -- the words of good terms pass the table
   module _ (g : GoodTerms t) (b : leb d 1 ≡ true) where
-    size_is : length ws ≡ destinations_at ws + total self (map size_of gs)
-    size_is =
-        omega (
-          arith,
-          joined_length gs,
-          length-append t.routes cored,
-          length-append t.core_shards crossed,
-          length-append (map id_of gs) started,
-          length-append (map from_of gs) counted,
-          length-append (map kind_of gs) sized,
-          length-append (map size_of gs) (concat_map to_of gs),
-          length-map gs id_of,
-          length-map gs from_of,
-          length-map gs kind_of,
-          length-map gs size_of,
-        )
-
     pub words_formed : admission_formed ws ≡ true
     unfolding admission_formed
     words_formed =
@@ -206,7 +193,7 @@ module _ (d : ℕ) (t : Terms) where
           core-read,
           test_ascending self t.core_shards g.rising,
           to-rest,
-          cut_joined gs,
+          to_cut,
           all_every (ascending self) (map to_of gs) (every_map to_of (λ m. ascending self m ≡ true) gs (rising-to gs g.edges)),
         )
 
@@ -237,4 +224,4 @@ module _ (d : ℕ) (t : Terms) where
         (every_more (Holds is_shard) (Holds is_word) shard-word (concat_map to_of gs) (to-shards gs g.edges))))) in
         let rest = every_append (Holds is_word) t.routes cored g.routes.each
         (every_append (Holds is_word) t.core_shards crossed (every_more (Holds is_shard) (Holds is_word) shard-word t.core_shards g.core_shards.each) each) in
-        (small_word r g.routes.size, (small_word c g.core_shards.size, (small_word e g.edge_count, (g.transaction, (time_word t.at g.at, (time_word t.end g.end, (time_word t.anchor g.anchor, (g.charge, (small_word d (omega (arith, leb-true d 1 b)), rest)))))))))
+        (small_word r (omega (arith, g.routes.size)), (small_word c (omega (arith, g.core_shards.size)), (small_word e (omega (arith, g.edge_count)), (g.transaction, (time_word t.at g.at, (time_word t.end g.end, (time_word t.anchor g.anchor, (g.charge, (small_word d (omega (arith, leb-true d 1 b)), rest)))))))))

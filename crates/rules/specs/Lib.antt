@@ -11,7 +11,9 @@ pub mod Readings
 pub mod Good
 pub mod Snapshot
 pub mod Reached
+pub mod Restored
 pub mod LeftOut
 pub mod Bundles
 pub mod Showing
 pub mod Instances
+pub mod Snapshots

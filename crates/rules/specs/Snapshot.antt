@@ -1,6 +1,6 @@
 -- Snapshots: a ledger written as words, and words read as a ledger. A list of words that is read is asked first for its form (12): that it has
 -- the length that its sizes require, each within its limit. Only then is it asked for all else that no writing has (13).
-use Rattle.std.specs.Prelude.{ℕ, zero, suc, ◌+◌, ◌*◌, Bool, true, false, cond, not, ◌&&◌, ◌||◌, List, [], ◌∷◌, ◌++◌, map, eqb, leb, length, take, drop}
+use Rattle.std.specs.Prelude.{ℕ, zero, suc, ◌+◌, ◌*◌, Bool, cond, not, ◌&&◌, ◌||◌, List, [], ◌∷◌, ◌++◌, map, eqb, leb, length, take, drop}
 use Rattle.std.proofs.Math.Option.{Option, none, some}
 use Rattle.lists.specs.Lists.{all, all_of, filled, has, ascending, concat_map, total, self, part, cut, rows}
 use Rattle.rules.specs.Numbers.{is_time, is_shard, is_span, max_entries, max_departures, max_routes, max_core, max_edges, max_destinations, max_absences, max_marks}
