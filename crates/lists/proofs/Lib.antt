@@ -16,6 +16,7 @@ pub mod Zip
 pub mod Joined
 pub mod Cuts
 pub mod Rows
+pub mod Coming
 pub mod Counting
 pub mod Sets
 pub mod Std

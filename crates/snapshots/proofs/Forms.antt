@@ -1,21 +1,22 @@
 -- The form of an entry's words, from that of its admission and that of its history.
 -- Assumes nothing.
-use Prim.Native.Nat.{ℕ, ◌+◌, ◌-◌, ◌≤◌, ◌<◌}
+use Prim.Native.Nat.{ℕ, ◌+◌, ◌-◌, ◌*◌, ◌≤◌, ◌<◌}
 use mathlib.Core.Path.{◌≡◌, sym, ap, ◌∙◌}
-use mathlib.Core.Bool.{true, false, true≢false}
+use mathlib.Core.Bool.{true, false, ◌&&◌, true≢false}
 use mathlib.Core.List.{List, [], ◌∷◌}
 use native.Mathlib.Omega.{arith}
 use lib.Dec.{eqb, leb}
 use lib.ListN.{length, length-drop}
 use borrow.Author.Tests.{leb-true, le-leb, eqb-true, eq-eqb}
 use Rattle.lists.specs.Lists.{all, total, self}
-use Rattle.lists.proofs.Tests.{same_test}
+use Rattle.lists.proofs.Tests.{and_left, and_right, and_both, and_true, same_test}
 use Rattle.lists.proofs.Keep.{each_of}
 use Rattle.lists.proofs.Cuts.{fails}
 use Rattle.rules.specs.Words.{within, route_count, core_count, edge_count, sizes, destinations_at}
-use Rattle.rules.specs.Snapshot.{admission_length, history_of, absence_count, mark_count, history_length, entry_formed}
+use Rattle.rules.specs.Snapshot.{admission_length, history_of, absence_count, mark_count, history_length, entry_formed, entry_count, departure_count, entry_lengths, entries_at, departures_at, entry_parts, snapshot_formed}
+use Rattle.rules.proofs.SnapshotWhole.{form_tests}
 use Rattle.words.specs.Admission.{Sized, Split}
-use Rattle.snapshots.specs.Form.{Measured, history_formed}
+use Rattle.snapshots.specs.Form.{Measured, history_formed, counted}
 
 -- an admission's words taken apart: whether its end can be told, and where it is
 module _ (ws us r c i f k n t : List ℕ) (s : Split us r c i f k n t) (e : us ≡ ws) where
@@ -75,3 +76,26 @@ entry_rows ws m =
     (λ q. eq-eqb _ _ (omega (arith, eqb-true (length hs) (history_length hs) q)))
     (λ q. eq-eqb _ _ (omega (arith, eqb-true (length ws) (admission_length ws + history_length hs) q))) in
     rw (le-leb (route_count ws) 8 c.routes, le-leb (core_count ws) 8 c.core, le-leb (edge_count ws) 8 c.edges, m.few, long)
+
+-- the whole
+module _ (ws : List ℕ) where
+  pub uncounted : counted ws ≡ false → false ≡ snapshot_formed ws
+  unfolding snapshot_formed
+  uncounted h =
+      fails (snapshot_formed ws) (λ f.
+        let t = each_of (form_tests ws) f in
+        let exact = eqb-true (length ws) (departures_at ws + 4 * departure_count ws) t.1.1.0 in
+        true≢false (sym (and_both _ _ t.0 (and_both _ _ t.1.0 (le-leb (entries_at ws + 4 * departure_count ws) (length ws) (omega (arith, exact))))) ∙ h))
+
+  pub counted_rows : counted ws ≡ true → eqb (length ws - (7 + entry_count ws + 4 * departure_count ws)) (total self (entry_lengths ws)) && all entry_formed (entry_parts ws) ≡ snapshot_formed ws
+  unfolding snapshot_formed
+  counted_rows h =
+      let n = and_left (leb (entry_count ws) 48) _ h in
+      let rest = and_right (leb (entry_count ws) 48) (leb (departure_count ws) 32 && leb (entries_at ws + 4 * departure_count ws) (length ws)) h in
+      let m = and_left (leb (departure_count ws) 32) _ rest in
+      let room = leb-true (entries_at ws + 4 * departure_count ws) (length ws) (and_right (leb (departure_count ws) 32) _ rest) in
+      let long : eqb (length ws - (7 + entry_count ws + 4 * departure_count ws)) (total self (entry_lengths ws)) ≡ eqb (length ws) (departures_at ws + 4 * departure_count ws) =
+      same_test _ _
+      (λ q. eq-eqb _ _ (omega (arith, room, eqb-true _ _ q)))
+      (λ q. eq-eqb _ _ (omega (arith, room, eqb-true _ _ q))) in
+      rw (n, m, long, and_true (all entry_formed (entry_parts ws)))

@@ -82,5 +82,5 @@ pub fn read_entry(words: &[u64], local: Shard) -> Option<Entry>
         return None;
     }
     history.put(&mut e);
-    if marks_fit(&e, local) { Some(e) } else { None }
+    marks_fit(&e, local).then_some(e)
 }

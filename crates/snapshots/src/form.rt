@@ -2,7 +2,7 @@
 ghost use Rattle.std.specs.Prelude.{◌≡◌, ◌≤◌, length, MatchOption};
 ghost use Rattle.lists.specs.Lists.{all, total, self as itself, cut};
 ghost use Rattle.rules.specs.Snapshot.{admission_length, entry_formed, snapshot_formed};
-ghost use Rattle.snapshots.specs.Form.{Measured, history_formed};
+ghost use Rattle.snapshots.specs.Form.{Measured, history_formed, counted};
 
 use lists::slices::{adds_up, all_within, part, size_at, total};
 use words::layout::Parts;
@@ -61,15 +61,25 @@ fn are_entries(lengths: &[u64], joined: &[u64]) -> bool
     true
 }
 
-// The sizes may be any words: none is added to another before it is within its limit.
-pub fn is_formed(words: &[u64]) -> bool
-    ensures { result ≡ snapshot_formed words.now }
+// Whether there are not too many entries and departures, and room for their lengths and for the departures. The numbers may be any words:
+// none is added to another before it is within its limit.
+fn is_counted(words: &[u64]) -> bool
+    ensures { result ≡ counted words.now }
 {
     let n = size_at(words, 5);
     let m = size_at(words, 6);
-    if 48 < n || 32 < m || words.len() < 7 + n + 4 * m {
+    n <= 48 && m <= 32 && 7 + n + 4 * m <= words.len()
+}
+
+pub fn is_formed(words: &[u64]) -> bool
+    ensures { result ≡ snapshot_formed words.now }
+{
+    if !is_counted(words) {
         return false;
     }
+    let n = size_at(words, 5);
+    let rest = words.len() - (7 + n + 4 * size_at(words, 6));
     let lengths = part(words, 7, n);
-    adds_up(lengths, words.len() - (7 + n + 4 * m)) && are_entries(lengths, &words[7 + n..])
+    let (_, entries) = words.split_at(7 + n);
+    adds_up(lengths, rest) && are_entries(lengths, entries)
 }
