@@ -49,7 +49,7 @@ fn has_room(departures: &Departures, shard: Shard) -> bool
 }
 
 // The stamp that comes with a terminal, whose words are read as the paper has them: a word that says whether, and a time.
-fn stamp_in(stamped: u64, until: Time) -> Option<Time>
+pub fn stamp_in(stamped: u64, until: Time) -> Option<Time>
     ensures { result ≡ stamp_in stamped until }
 {
     if stamped == 0 { None } else { Some(until) }

@@ -7,8 +7,8 @@ use mathlib.Core.Bool.{Bool, true, false, cond, ◌&&◌, ◌||◌, true≢false
 use mathlib.Core.List.{List, [], ◌∷◌, ◌++◌, map}
 use native.Mathlib.Omega.{arith}
 use lib.Dec.{eqb, ltb}
-use lib.ListN.{length, drop}
-use borrow.Author.Tests.{ltb-true, lt-ltb, le-ltb, ne_eqb}
+use lib.ListN.{length, drop, length-append, length-map}
+use borrow.Author.Tests.{ltb-true, eqb-true, eqb-false, ne_eqb}
 use Rattle.lists.specs.Lists.{all, Above, Ascending, has, include, above_all, ascending}
 use Rattle.lists.specs.Arrays.{rank}
 use Rattle.lists.proofs.Tests.{and_left, and_right, and_both, and_false}
@@ -16,7 +16,7 @@ use Rattle.lists.proofs.Order.{include_past, ascending_test, test_ascending}
 use Rattle.lists.proofs.Held.{put_behind, all_put}
 
 -- as many are counted from the front as there are, just where each passes
-pub all_ranked : {A : Type 0} (p : A → Bool) (l : List A) → rank p l ≡ length l → all p l ≡ true
+all_ranked : {A : Type 0} (p : A → Bool) (l : List A) → rank p l ≡ length l → all p l ≡ true
 unfolding rank
 all_ranked p [] e = refl
 all_ranked p (x ∷ l) e = go (p x) e (all_ranked p l)
@@ -25,7 +25,7 @@ all_ranked p (x ∷ l) e = go (p x) e (all_ranked p l)
     go true q f = f (omega (arith, q))
     go false q f = absurd (omega (arith, q))
 
-pub not_ranked : {A : Type 0} (p : A → Bool) (l : List A) → (rank p l ≡ length l → ⊥) → all p l ≡ false
+not_ranked : {A : Type 0} (p : A → Bool) (l : List A) → (rank p l ≡ length l → ⊥) → all p l ≡ false
 unfolding rank
 not_ranked p [] e = absurd (e refl)
 not_ranked p (x ∷ l) e = go (p x) e (not_ranked p l)
@@ -33,6 +33,14 @@ not_ranked p (x ∷ l) e = go (p x) e (not_ranked p l)
     go : (b : Bool) → (cond b (suc (rank p l)) 0 ≡ suc (length l) → ⊥) → ((rank p l ≡ length l → ⊥) → all p l ≡ false) → b && all p l ≡ false
     go true q f = f (λ r. q (ap suc r))
     go false q f = refl
+
+-- so a rank that is the length tells whether each passes
+pub ranked_last : {A : Type 0} (p : A → Bool) (l : List A) (m n : ℕ) → m ≡ rank p l → n ≡ length l → eqb m n ≡ all p l
+ranked_last p l m n e h = go (eqb m n) refl
+  where
+    go : (b : Bool) → eqb m n ≡ b → eqb m n ≡ all p l
+    go true q = q ∙ sym (all_ranked p l (sym e ∙ eqb-true m n q ∙ h))
+    go false q = q ∙ sym (not_ranked p l (λ r. eqb-false m n q (e ∙ r ∙ sym h)))
 
 module _ {A : Type 0} (key : A → ℕ) where
   -- each comes before x
@@ -96,6 +104,11 @@ module _ {A : Type 0} (key : A → ℕ) where
           (sym (and_both (all sound parts) (ascending key (map read parts)) tested (rw whole at (test_ascending key xs a))), whole)
 
       module _ (x : List ℕ) (e : drop i parts ≡ x ∷ drop (i + 1) parts) where
+        -- there are fewer than there will be
+        pub room_left : length xs < length parts
+        room_left =
+            omega (arith, ap length c.rows, length-append xs (map read (drop i parts)), length-map (drop i parts) read, length-map parts read, ap length e)
+
         pub unsound : sound x ≡ false → false ≡ answer
         unsound h =
             let none : all sound parts ≡ false = sym c.tests ∙ ap (all sound) e ∙ ap (λ b. b && all sound (drop (i + 1) parts)) h in

@@ -2,6 +2,8 @@
 // only then is a ledger made, its entries taken in one after the other as an admission's is.
 #![tactic(auto)]
 
+pub mod departures;
 pub mod entries;
 pub mod form;
 pub mod history;
+pub mod restore;

@@ -40,7 +40,7 @@ impl Departure {
 
 impl Departures {
     ghost use Rattle.std.specs.Prelude.{[], ◌∷◌, ◌++◌};
-    ghost use Rattle.lists.specs.Lists.{change, keep_by};
+    ghost use Rattle.lists.specs.Lists.{all, change, keep_by};
     ghost use Rattle.lists.specs.Arrays.{place, rank, insert_at};
     ghost use Rattle.rules.specs.Calls.{departed, stamped};
     ghost use Rattle.store.specs.Departures.{Holds, on_file, is_of, is_under, room_for};
@@ -77,6 +77,13 @@ impl Departures {
         ensures { Holds (insert_at k (plain_departure d) (on_file self.old)) self.new }
     {
         self.front.insert_at(k, d);
+    }
+
+    // Whether the shard is above all on file.
+    pub fn is_last(&self, shard: Shard) -> bool
+        ensures { result ≡ all (is_under shard.0) (on_file self.now) }
+    {
+        self.rank(shard) == self.front.len
     }
 
     // A departure of a shard above all on file put behind them.

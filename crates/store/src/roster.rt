@@ -1,7 +1,7 @@
 // The owed transactions in rising order, each with the slot in which its entry lies. Entries never move: putting one in or letting
 // one go shifts numbers only. The slots not in use stand behind those in use, so that all forty-eight are always there once.
 ghost use Rattle.std.specs.Prelude.{◌≡◌, ◌≤◌, ◌<◌, length, take};
-ghost use Rattle.lists.specs.Lists.{Every};
+ghost use Rattle.lists.specs.Lists.{all, Every};
 ghost use Rattle.lists.specs.Arrays.{place, rank, Distinct};
 ghost use Rattle.store.specs.Props.{Below-prop, Distinct-prop};
 
@@ -62,6 +62,13 @@ impl Roster {
         ensures { result ≡ rank (below (number_of tx)) (keys_of self.now) }
     {
         sorted::rank(&self.keys[..self.len], |k| *k < tx.0)
+    }
+
+    // Whether the transaction is above all that are owed.
+    pub fn is_last(&self, tx: Transaction) -> bool
+        ensures { result ≡ all (below (number_of tx)) (keys_of self.now) }
+    {
+        self.rank(tx) == self.len
     }
 
     // The transaction put in at a place, with the first slot that is not in use. This and letting go are done in place, so that nothing is
