@@ -130,6 +130,6 @@ module _ (ws : List ℕ) (l : Ledger) (m : Made ws l) where
         record {
           said = t.said ∙ ap₂ entries_sound home parts ∙ sym (ap (λ b. b && entries_sound (word 0 ws) (entry_parts ws)) sound);
           became = λ y.
-          let k = t.became y in
-          record { held = k.held; holds = k.holds ∙ ap₂ (λ (u : List (List ℕ)) (v : Plain). with_entries (map entry_in u) v) parts holds };
+              let k = t.became y in
+              record { held = k.held; holds = k.holds ∙ ap₂ (λ (u : List (List ℕ)) (v : Plain). with_entries (map entry_in u) v) parts holds };
         }

@@ -32,10 +32,9 @@ module _ (ws us r c i f k n t : List ℕ) (s : Split us r c i f k n t) (e : us �
   measured h b =
       let many : total self n ≡ total self (sizes us) = ap (total self) s.sizes in
       let room : length t + destinations_at us ≡ length us = omega (arith, ap length s.to, length-drop (destinations_at us) us, s.sized.room) in
-      rw (← e)
-      (
+      rw (← e) (
         record { sized = s.sized; few = rw s.sizes at h; room = omega (arith, many, room) },
-        omega (arith, many, room)
+        omega (arith, many, room),
       )
 
 pub entry_measured : (ws : List ℕ) → entry_formed ws ≡ true → Measured ws
@@ -43,7 +42,7 @@ unfolding entry_formed
 entry_measured ws h =
     let hs = history_of ws in
     let t = each_of (
-      leb (route_count ws) 8 ∷ leb (core_count ws) 8 ∷ leb (edge_count ws) 8 ∷ within 4 (sizes ws) ∷ leb (absence_count hs) 8 ∷ leb (mark_count hs) 8 ∷ eqb (length ws) (admission_length ws + history_length hs) ∷ []
+    leb (route_count ws) 8 ∷ leb (core_count ws) 8 ∷ leb (edge_count ws) 8 ∷ within 4 (sizes ws) ∷ leb (absence_count hs) 8 ∷ leb (mark_count hs) 8 ∷ eqb (length ws) (admission_length ws + history_length hs) ∷ []
     ) h in
     let exact = eqb-true (length ws) (admission_length ws + history_length hs) t.1.1.1.1.1.1.0 in
     record {
@@ -83,9 +82,9 @@ module _ (ws : List ℕ) where
   unfolding snapshot_formed
   uncounted h =
       fails (snapshot_formed ws) (λ f.
-        let t = each_of (form_tests ws) f in
-        let exact = eqb-true (length ws) (departures_at ws + 4 * departure_count ws) t.1.1.0 in
-        true≢false (sym (and_both _ _ t.0 (and_both _ _ t.1.0 (le-leb (entries_at ws + 4 * departure_count ws) (length ws) (omega (arith, exact))))) ∙ h))
+      let t = each_of (form_tests ws) f in
+      let exact = eqb-true (length ws) (departures_at ws + 4 * departure_count ws) t.1.1.0 in
+      true≢false (sym (and_both _ _ t.0 (and_both _ _ t.1.0 (le-leb (entries_at ws + 4 * departure_count ws) (length ws) (omega (arith, exact))))) ∙ h))
 
   pub counted_rows : counted ws ≡ true → eqb (length ws - (7 + entry_count ws + 4 * departure_count ws)) (total self (entry_lengths ws)) && all entry_formed (entry_parts ws) ≡ snapshot_formed ws
   unfolding snapshot_formed

@@ -4,3 +4,4 @@ pub mod Histories
 pub mod Sound
 pub mod Taking
 pub mod Filling
+pub mod Restoring

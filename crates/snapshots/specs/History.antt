@@ -18,13 +18,13 @@ absences_in hs = map absence_in (absence_parts hs)
 unfoldable pub history_sound : List ℕ → Bool
 history_sound hs =
     all_of (
-      leb (word 0 hs) 3
-      ∷ leb (word 1 hs) 2
-      ∷ is_departed_by (word 2 hs)
-      ∷ leb (word 3 hs) 1
-      ∷ all (λ (a : plain.Absence). is_shard a.shard) (absences_in hs)
-      ∷ ascending absence_key (absences_in hs)
-      ∷ []
+    leb (word 0 hs) 3
+    ∷ leb (word 1 hs) 2
+    ∷ is_departed_by (word 2 hs)
+    ∷ leb (word 3 hs) 1
+    ∷ all (λ (a : plain.Absence). is_shard a.shard) (absences_in hs)
+    ∷ ascending absence_key (absences_in hs)
+    ∷ []
     )
 
 -- h is what the words say

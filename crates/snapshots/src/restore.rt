@@ -1,9 +1,9 @@
 // A ledger made from a snapshot's words: a making with its local and spans, then the departures, then the entries.
 ghost use Rattle.std.specs.Prelude.{◌≡◌, []};
 ghost use Rattle.lists.specs.Lists.{cut};
-ghost use Rattle.rules.specs.Calls.{not_made};
+ghost use Rattle.rules.specs.Words.{word};
+ghost use Rattle.rules.specs.Calls.{making};
 ghost use Rattle.rules.specs.Snapshot.{restoring};
-ghost use Rattle.ledger.specs.Contents.{Became};
 ghost use Rattle.ledger.specs.Meets.{Meets};
 ghost use Rattle.snapshots.specs.Restore.{Empty, Takes, Made, Fills, Refused};
 
@@ -64,6 +64,19 @@ fn refused(refusal: Refusal) -> Done
     }
 }
 
+// A making with the local and the spans that the words begin with.
+fn framed(words: &[u64]) -> Done
+    ensures { Meets (making (word 0 words.now) (word 1 words.now) (word 2 words.now) (word 3 words.now)) [] [] result }
+{
+    let local = Shard(word_at(words, 0));
+    new(
+        local,
+        word_at(words, 1),
+        word_at(words, 2),
+        word_at(words, 3),
+    )
+}
+
 // The ledger whose snapshot these words are.
 pub fn restore(words: &[u64]) -> Done
     ensures { Meets (restoring words.now) [] [] result }
@@ -71,12 +84,7 @@ pub fn restore(words: &[u64]) -> Done
     if !is_formed(words) {
         return refused(Refusal::NoSnapshot);
     }
-    let mut done = new(
-        Shard(word_at(words, 0)),
-        word_at(words, 1),
-        word_at(words, 2),
-        word_at(words, 3),
-    );
+    let mut done = framed(words);
     if done.said.is_err() {
         return refused(Refusal::NeverWritten);
     }

@@ -44,10 +44,9 @@ returns-then-not-is_last c =
 pub push-requires : goal.push-requires
 push-requires c =
     let l = c.loop-i in
-    let r = at_turn c.args.words.now c.part-row.result.now c.args.count l.i c.loop-i-test.true c.part-row.ensures in
-    (
+    let r = at_turn c.args.words.now c.part-row.result.now c.args.count l.i c.loop-i-test.true c.part-row.ensures in (
       omega (arith, room_left shard_of departure_sound departure_in _ l.invariant _ r, length_rows 4 c.args.count c.args.words.now, file-length l.departures, c.requires.1),
-      rises_with shard_of (plain_departure c.read_departure-d.result) (on_file l.departures) l.departures.rising (sym c.is_last.ensures ∙ c.if-not-is_last.false)
+      rises_with shard_of (plain_departure c.read_departure-d.result) (on_file l.departures) l.departures.rising (sym c.is_last.ensures ∙ c.if-not-is_last.false),
     )
 
 pub loop-i-preserved : goal.loop-i-preserved
