@@ -130,6 +130,16 @@ impl Part {
     }
 }
 
+impl Certificate {
+    ghost use Rattle.entry.specs.Entry.{certificate_number};
+
+    pub fn number(self) -> u64
+        ensures { result ≡ certificate_number self }
+    {
+        self as u64
+    }
+}
+
 // By the number that comes in words.
 impl TryFrom<u64> for Part {
     ghost use Rattle.rules.specs.Plain.{part_number};

@@ -19,13 +19,13 @@ use Rattle.rules.specs.Words.{word, edge, with, route_count, core_count, edge_co
 use Rattle.rules.proofs.Written.{id_of, from_of, kind_of, to_of, size_of}
 
 -- the edges that are made of parallel arrays give these back
-record Unzipped (is fs ks : List ℕ) (ts : List (List ℕ)) (gs : List Edge) : Type 0 where
+pub record Unzipped (is fs ks : List ℕ) (ts : List (List ℕ)) (gs : List Edge) : Type 0 where
   pub ids : map id_of gs ≡ is
   pub froms : map from_of gs ≡ fs
   pub kinds : map kind_of gs ≡ ks
   pub tos : map to_of gs ≡ ts
 
-unzip : (is fs ks : List ℕ) (ts : List (List ℕ)) → length fs ≡ length is → length ks ≡ length is → length ts ≡ length is →
+pub unzip : (is fs ks : List ℕ) (ts : List (List ℕ)) → length fs ≡ length is → length ks ≡ length is → length ts ≡ length is →
     Unzipped is fs ks ts (zip_by with (zip_by with (zip_by edge is fs) ks) ts)
 unzip [] fs ks ts f k t = record { ids = refl; froms = sym (nil_from_length fs f); kinds = sym (nil_from_length ks k); tos = sym (nil_from_length ts t) }
 unzip (i ∷ is) [] ks ts f k t = absurd (omega (arith, f))

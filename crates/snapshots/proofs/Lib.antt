@@ -5,3 +5,5 @@ pub mod Sound
 pub mod Taking
 pub mod Filling
 pub mod Restoring
+pub mod Putting
+pub mod Fields

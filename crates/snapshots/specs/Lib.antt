@@ -1,3 +1,4 @@
 pub mod Form
 pub mod History
 pub mod Restore
+pub mod Put

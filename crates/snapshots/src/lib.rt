@@ -6,4 +6,6 @@ pub mod departures;
 pub mod entries;
 pub mod form;
 pub mod history;
+pub mod put;
 pub mod restore;
+pub mod write;

@@ -1,0 +1,113 @@
+// The ledger written as a snapshot's words: local, the spans, the running count, how many entries and departures there are; each entry's length,
+// the entries, the departures. How many words there are is told first, so that a list that is too short stays as it is.
+ghost use Rattle.std.specs.Prelude.{◌≡◌, ◌≤◌, ◌+◌, ◌*◌, map, length};
+ghost use Rattle.lists.specs.Lists.{concat_map};
+ghost use Rattle.rules.specs.Readings.{read, take_snapshot};
+ghost use Rattle.rules.specs.Snapshot.{entry_words, departure_words, snapshot_words};
+ghost use Rattle.store.specs.Departures.{on_file};
+ghost use Rattle.store.specs.Stored.{plain_departure};
+ghost use Rattle.ledger.specs.Contents.{Held, contents};
+ghost use Rattle.readings.specs.Reads.{Reads};
+ghost use Rattle.snapshots.specs.Put.{Put, entry_lengths, frame_words};
+
+use crate::put::{entry_length, put, put_entry};
+use ledger::Ledger;
+use store::departures::{Departure, Departures};
+use types::refusal::Refusal;
+
+// How many words the entries have.
+fn entries_length(ledger: &Ledger) -> usize
+    requires { Held ledger.now }
+    ensures { (result ≡ length (concat_map entry_words (contents ledger.now).entries)) × (result ≤ 5712) }
+{
+    let mut n = 0;
+    for slot in &ledger.roster.slots[..ledger.roster.len] {
+        n += entry_length(&ledger.entries[*slot]);
+    }
+    n
+}
+
+// How many words the snapshot has.
+pub fn snapshot_length(ledger: &Ledger) -> usize
+    requires { Held ledger.now }
+    ensures { (result ≡ length (snapshot_words (contents ledger.now))) × (result ≤ 5895) }
+{
+    7 + ledger.roster.len + entries_length(ledger) + 4 * ledger.departures.front.len
+}
+
+fn put_lengths(ledger: &Ledger, words: &mut [u64], at: usize) -> usize
+    requires { Held ledger.now × (at + ledger.now.roster.len ≤ length words.old) }
+    ensures { Put (entry_lengths (contents ledger.now).entries) words.old at words.new result }
+{
+    let mut end = at;
+    for slot in &ledger.roster.slots[..ledger.roster.len] {
+        let n = entry_length(&ledger.entries[*slot]);
+        end = put(&[n as u64], words, end);
+    }
+    end
+}
+
+fn put_entries(ledger: &Ledger, words: &mut [u64], at: usize) -> usize
+    requires { Held ledger.now × (at + length (concat_map entry_words (contents ledger.now).entries) ≤ length words.old) }
+    ensures { Put (concat_map entry_words (contents ledger.now).entries) words.old at words.new result }
+{
+    let mut end = at;
+    for slot in &ledger.roster.slots[..ledger.roster.len] {
+        end = put_entry(&ledger.entries[*slot], words, end);
+    }
+    end
+}
+
+// Stamped and until, which is 0 without a stamp.
+fn put_departure(d: &Departure, words: &mut [u64], at: usize) -> usize
+    requires { at + 4 ≤ length words.old }
+    ensures { Put (departure_words (plain_departure d.now)) words.old at words.new result }
+{
+    let until = d.until.map_or(0, |time| time.0);
+    let stamped = u64::from(d.until.is_some());
+    put(&[d.shard.0, d.cut.0, stamped, until], words, at)
+}
+
+fn put_departures(departures: &Departures, words: &mut [u64], at: usize) -> usize
+    requires { at + 4 * departures.now.front.len ≤ length words.old }
+    ensures { Put (concat_map departure_words (on_file departures.now)) words.old at words.new result }
+{
+    let mut end = at;
+    for d in departures.front.as_slice() {
+        end = put_departure(d, words, end);
+    }
+    end
+}
+
+// The frame: what comes ahead of the entries' lengths.
+fn put_frame(ledger: &Ledger, words: &mut [u64]) -> usize
+    requires { Held ledger.now × (7 ≤ length words.old) }
+    ensures { Put (frame_words (contents ledger.now)) words.old 0 words.new result }
+{
+    let frame = [
+        ledger.local.0,
+        ledger.validity,
+        ledger.core_span,
+        ledger.leg_span,
+        ledger.rebuilt,
+        ledger.roster.len as u64,
+        ledger.departures.front.len as u64,
+    ];
+    put(&frame, words, 0)
+}
+
+// The ledger's words written to the front of lent; how many they are.
+pub fn snapshot(ledger: &Ledger, lent: &mut [u64]) -> Result<u64, Refusal>
+    requires { Held ledger.now }
+    ensures { Reads (read (take_snapshot (length lent.old)) (contents ledger.now)) lent.old lent.new result }
+{
+    let n = snapshot_length(ledger);
+    if lent.len() < n {
+        return Err(Refusal::ListShort);
+    }
+    let at = put_frame(ledger, lent);
+    let at = put_lengths(ledger, lent, at);
+    let at = put_entries(ledger, lent, at);
+    put_departures(&ledger.departures, lent, at);
+    Ok(n as u64)
+}
