@@ -56,21 +56,6 @@ pub issuers_hold : (p : Plain) → Good p → (id : ℕ) → issuers_of id p ≡
 unfolding issuers_of
 issuers_hold p g id = keep_same (is_issuer p id) (holds_id p.local id) p.entries (λ e m. issuer_holds p g id e m)
 
--- The entry that a loop over the slots in use meets.
-abbrev pub slot_met : Ledger → ℕ → ℕ
-slot_met l i = get_or (take l.roster.len l.roster.slots) i 0
-
-pub record AtTurn (l : Ledger) (i s : ℕ) : Type 0 where
-  pub place : i < 48
-  pub good : (d : Entry) → GoodEntry l.local.0 (plain_entry (get_or l.entries s d))
-  pub next : (d : Entry) → drop i (entries_of l) ≡ plain_entry (get_or l.entries s d) ∷ drop (i + 1) (entries_of l)
-
-pub at_turn : (l : Ledger) → Held l → (i : ℕ) → i < l.roster.len → AtTurn l i (slot_met l i)
-unfolding contents
-at_turn l h i b =
-    let a = entry_at l h i b in
-    rw (get_or-take l.roster.len l.roster.slots i 0 b) (record { place = a.place; good = a.good; next = a.next })
-
 -- One less without a number of a rising list.
 above_kept : (x : ℕ) (l : List ℕ) → Above self x l → length (without self x l) ≡ length l
 above_kept x [] a = refl

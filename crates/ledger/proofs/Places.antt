@@ -8,7 +8,7 @@ use mathlib.Core.List.{List, [], ◌∷◌, map}
 use mathlib.Core.Option.{some}
 use native.Mathlib.Omega.{arith}
 use lib.Dec.{ltb}
-use lib.ListN.{length, drop, get_or, length-map, get_or-map}
+use lib.ListN.{length, take, drop, get_or, length-map, get_or-map}
 use lib.Seq.{length-take-le, get_or-take}
 use Rattle.lists.specs.Lists.{Ascending, at, has, get}
 use Rattle.lists.specs.Arrays.{place, rank}
@@ -118,3 +118,18 @@ owed_in l h t s w =
 pub not_found : (l : Ledger) → Held l → (t : ℕ) → place (is t) 0 (keys_of l.roster) ≡ None → Missing transaction_of t (contents l).entries
 unfolding contents
 not_found l h t e = missing transaction_of t (entries_of l) (sym (placed l h t) ∙ e)
+
+-- The entry that a loop over the slots in use meets.
+abbrev pub slot_met : Ledger → ℕ → ℕ
+slot_met l i = get_or (take l.roster.len l.roster.slots) i 0
+
+pub record AtTurn (l : Ledger) (i s : ℕ) : Type 0 where
+  pub place : i < 48
+  pub good : (d : Entry) → GoodEntry l.local.0 (plain_entry (get_or l.entries s d))
+  pub next : (d : Entry) → drop i (entries_of l) ≡ plain_entry (get_or l.entries s d) ∷ drop (i + 1) (entries_of l)
+
+pub at_turn : (l : Ledger) → Held l → (i : ℕ) → i < l.roster.len → AtTurn l i (slot_met l i)
+unfolding contents
+at_turn l h i b =
+    let a = entry_at l h i b in
+    rw (get_or-take l.roster.len l.roster.slots i 0 b) (record { place = a.place; good = a.good; next = a.next })

@@ -1,18 +1,17 @@
 -- An entry's fields as the words that are written of them, and how many they are.
 -- Assumes nothing.
-use Prim.Native.Nat.{ℕ, ◌+◌, ◌*◌, ◌≤◌, ◌<◌, min}
+use Prim.Native.Nat.{ℕ, ◌*◌, ◌≤◌, min}
 use mathlib.Core.Path.{◌≡◌, refl, sym, ap, ◌∙◌}
 use mathlib.Core.Bool.{Bool, true, false}
-use mathlib.Core.List.{List, [], ◌∷◌, ◌++◌, map}
+use mathlib.Core.List.{◌∷◌, ◌++◌}
 use native.Mathlib.Omega.{arith}
 use mir.Val as mir
-use lib.ListN.{length, take, drop, get_or, length-map, length-append}
+use lib.ListN.{length, take, length-map, length-append}
 use lib.Seq.{length-take-le}
 use Rattle.lists.specs.Lists.{total, self, concat_map, cut}
 use Rattle.lists.proofs.Cuts.{total-within, cut-length}
 use Rattle.lists.proofs.Listing.{length-words}
 use Rattle.lists.proofs.Joined.{sizes_again, joined_again}
-use Rattle.rules.specs.Plain as plain
 use Rattle.rules.specs.Plain.{part_number}
 use Rattle.rules.specs.Outcome.{yes_no}
 use Rattle.rules.specs.Snapshot.{absence_words, decomposed_word, history_words, entry_words}
@@ -21,10 +20,9 @@ use Rattle.rules.proofs.SnapshotAdmission.{Unzipped, unzip}
 use Rattle.entry.specs.declared.Part as declared
 use Rattle.entry.specs.declared.Part.TheVariants.{Whole, Leg, Core, Remainder}
 use Rattle.entry.specs.declared.Entry.{Entry}
-use Rattle.entry.specs.declared.Absence.{Absence}
 use Rattle.entry.specs.Entry.{plain_part, plain_absence, absences_of, edges_of, plain_entry}
 use Rattle.entry.proofs.Shape.{fits_of}
-use Rattle.snapshots.specs.Put.{edge_words, edges_size, history_size, entry_size}
+use Rattle.snapshots.specs.Put.{edge_words, edges_size, entry_size}
 
 module _ (e : Entry) where
   pub routes-length : length (take e.routes_len e.routes) ≡ e.routes_len

@@ -1,14 +1,13 @@
 -- A making filled with what a snapshot's words say: departures, count, entries.
 -- Assumes nothing.
 use Prim.Native.Nat.{ℕ, ◌+◌, ◌-◌, ◌*◌, ◌≤◌}
-use mathlib.Core.Path.{◌≡◌, refl, sym, ap, ap₂, ◌∙◌, subst}
+use mathlib.Core.Path.{◌≡◌, sym, ap, ap₂, ◌∙◌}
 use mathlib.Core.Bool.{Bool, true, false, ◌&&◌, true≢false}
-use mathlib.Core.List.{List, [], ◌∷◌, map}
+use mathlib.Core.List.{List, [], map}
 use native.Mathlib.Omega.{arith}
 use borrow.Author.Tests.{leb-true, eqb-true}
-use lib.Dec.{eqb, leb}
 use lib.ListN.{length, drop, length-map, length-drop}
-use Rattle.lists.specs.Lists.{all, Every, ascending, total, self, part, cut, rows}
+use Rattle.lists.specs.Lists.{all, ascending, cut, rows}
 use Rattle.lists.proofs.Tests.{and_left, and_right}
 use Rattle.lists.proofs.Keep.{each_of, every_all, every_more, every_map}
 use Rattle.lists.proofs.Order.{ascending_test}
@@ -22,9 +21,9 @@ use Rattle.rules.specs.Snapshot.{entry_count, departure_count, entry_lengths, en
 use Rattle.rules.proofs.SnapshotEntry.{departure-good}
 use Rattle.rules.proofs.SnapshotWhole.{form_tests}
 use Rattle.store.specs.declared.departures.Departures.{Departures}
-use Rattle.store.specs.Departures.{on_file, Holds}
+use Rattle.store.specs.Departures.{on_file}
 use Rattle.ledger.specs.declared.Ledger.{Ledger}
-use Rattle.ledger.specs.Contents.{contents, Held, Became, with_parts}
+use Rattle.ledger.specs.Contents.{contents, Became, with_parts}
 use Rattle.ledger.proofs.Lift.{filed, counted}
 use Rattle.snapshots.specs.Restore.{departures_sound, entries_sound, Files, Empty, Takes, Made, Fills}
 

@@ -5,7 +5,7 @@ use mathlib.Core.Path.{◌≡◌, refl, sym, ap, ◌∙◌}
 use mathlib.Core.Bool.{Bool, true, false, cond, not, ◌&&◌}
 use mathlib.Core.List.{List, [], ◌∷◌}
 use native.Mathlib.Omega.{arith}
-use lib.Dec.{eqb, ltb, leb}
+use lib.Dec.{eqb, ltb}
 use lib.ListN.{length, take, drop}
 use borrow.Author.Tests.{lt-ltb, leb-true, ne_eqb}
 use Rattle.lists.specs.Lists.{filled, has, self, zip_by, part}
@@ -14,7 +14,7 @@ use Rattle.lists.proofs.Keep.{each_of}
 use Rattle.lists.proofs.Cuts.{part_length, cut-length, zip_by-length}
 use Rattle.rules.specs.Plain as plain
 use Rattle.rules.specs.Plain.{whole, leg, core, is_leg, is_core, Terms, owes}
-use Rattle.rules.specs.Words.{word, edge, with, decomposed, core_count, edge_count, core_at, edges_at, core_in, froms, kinds, sizes, edges_in, destinations, destinations_at, admission_terms, admission_tests, admission_formed}
+use Rattle.rules.specs.Words.{edge, with, decomposed, core_count, edge_count, core_at, edges_at, core_in, froms, kinds, sizes, edges_in, destinations, destinations_at, admission_terms, admission_tests, admission_formed}
 use Rattle.rules.specs.Entries.{whole_terms, admitted}
 use Rattle.rules.specs.Snapshot.{part_fits}
 use Rattle.entry.specs.declared.Entry.{Entry}

@@ -15,7 +15,7 @@ use Rattle.lists.proofs.Cuts.{fails}
 use Rattle.rules.specs.Words.{within, route_count, core_count, edge_count, sizes, destinations_at}
 use Rattle.rules.specs.Snapshot.{admission_length, history_of, absence_count, mark_count, history_length, entry_formed, entry_count, departure_count, entry_lengths, entries_at, departures_at, entry_parts, snapshot_formed}
 use Rattle.rules.proofs.SnapshotWhole.{form_tests}
-use Rattle.words.specs.Admission.{Sized, Split}
+use Rattle.words.specs.Admission.{Split}
 use Rattle.snapshots.specs.Form.{Measured, history_formed, counted}
 
 -- an admission's words taken apart: whether its end can be told, and where it is

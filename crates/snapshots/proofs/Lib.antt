@@ -7,3 +7,4 @@ pub mod Filling
 pub mod Restoring
 pub mod Putting
 pub mod Fields
+pub mod Writing

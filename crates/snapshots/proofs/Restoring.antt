@@ -12,14 +12,13 @@ use Rattle.rules.specs.Numbers.{is_shard, is_span}
 use Rattle.rules.specs.Plain.{Plain, transaction_of, shard_of, empty}
 use Rattle.rules.specs.Words.{word}
 use Rattle.rules.specs.Outcome.{Outcome, done, unless, ◌gives◌then◌}
-use Rattle.rules.specs.Calls.{not_made, making, making_refusal}
+use Rattle.rules.specs.Calls.{not_made, making}
 use Rattle.rules.specs.Snapshot.{entry_parts, departure_parts, entry_sound, departure_sound, snapshot_formed, snapshot_sound, ledger_in, restoring}
 use Rattle.types.specs.declared.refusal.Refusal.{Refusal}
 use Rattle.types.specs.declared.refusal.Refusal.TheVariants.{NoSnapshot, NeverWritten}
 use Rattle.types.specs.Refusals.{refusal_number, refused_in}
 use Rattle.ledger.specs.declared.Ledger.{Ledger}
 use Rattle.ledger.specs.declared.Done.{Done}
-use Rattle.ledger.specs.Contents.{contents, Held, Became}
 use Rattle.ledger.specs.Meets.{Meets, three_of, answers_in, saying, says_no}
 use Rattle.ledger.proofs.Meeting.{numbered}
 use Rattle.snapshots.specs.Restore.{departures_sound, entries_sound, Made, Fills, Refused}

@@ -1,13 +1,12 @@
 -- What makes an entry's words sound, in the order in which they are read, and the entry that is read.
 -- Assumes nothing.
-use Prim.Native.Nat.{ℕ, zero, suc, ◌≤◌}
+use Prim.Native.Nat.{ℕ, suc}
 use mathlib.Core.Path.{◌≡◌, refl, sym, ap, ◌∙◌, subst}
 use mathlib.Core.Bool.{Bool, true, false, cond, not, ◌&&◌, true≢false}
-use mathlib.Core.List.{List, [], ◌∷◌, map}
+use mathlib.Core.List.{List, [], ◌∷◌}
 use native.Mathlib.Omega.{arith}
 use lib.Dec.{eqb, leb}
-use lib.ListN.{length}
-use borrow.Author.Tests.{leb-true, le-leb, eqb-true, eq-eqb, ne_eqb}
+use borrow.Author.Tests.{eqb-true}
 use Rattle.lists.specs.Lists.{all, all_of, filled, ascending}
 use Rattle.lists.proofs.Tests.{and_true, and_false, and_left, and_right, cond_same}
 use Rattle.rules.specs.Numbers.{is_shard}
@@ -15,7 +14,7 @@ use Rattle.rules.specs.Plain as plain
 use Rattle.rules.specs.Plain.{Part, whole, leg, core, remainder, Terms, Entry, absence_key}
 use Rattle.rules.specs.Words.{word, decomposed, admission_terms, admission_formed, admission_timed, admission_placed}
 use Rattle.rules.specs.Entries.{whole_terms, admitted}
-use Rattle.rules.specs.Snapshot.{admission_of, history_of, part_named, part_fits, marks_fit, entry_in, entry_sound}
+use Rattle.rules.specs.Snapshot.{admission_of, history_of, part_fits, marks_fit, entry_in, entry_sound}
 use Rattle.entry.specs.declared.Entry as declared
 use Rattle.rules.specs.Good.{is_departed_by}
 use Rattle.rules.specs.Outcome.{◌gives◌then◌}

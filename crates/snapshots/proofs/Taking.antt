@@ -2,10 +2,10 @@
 -- Assumes nothing.
 use Prim.Native.Nat.{ℕ, ◌+◌, ◌≤◌, ◌<◌}
 use mathlib.Core.Path.{◌≡◌, refl, sym, ap, ◌∙◌, subst}
-use mathlib.Core.Bool.{Bool, true, false, ◌&&◌, true≢false}
-use mathlib.Core.List.{List, [], ◌∷◌, ◌++◌, map}
+use mathlib.Core.Bool.{true, false, true≢false}
+use mathlib.Core.List.{List, [], ◌∷◌, ◌++◌}
 use native.Mathlib.Omega.{arith}
-use lib.ListN.{length, take, drop, get_or, length-append, length-drop, length-map}
+use lib.ListN.{length, take, drop, get_or, length-append, length-drop}
 use Rattle.lists.specs.Lists.{all, Every, total, self, cut, include}
 use Rattle.lists.proofs.Keep.{every_all, every_append}
 use Rattle.lists.proofs.Parts.{every_drop}
@@ -26,7 +26,7 @@ use Rattle.store.specs.Roster.{keys_of, below}
 use Rattle.ledger.specs.declared.Ledger.{Ledger}
 use Rattle.ledger.specs.Contents.{contents, Held, Became}
 use Rattle.calls.specs.Naming.{Enters}
-use Rattle.snapshots.specs.Restore.{Empty, Takes, entries_sound}
+use Rattle.snapshots.specs.Restore.{Empty, Takes}
 
 module _ (lengths joined : List ℕ) (start : Ledger) where
   abbrev parts : List (List ℕ)

@@ -3,8 +3,8 @@ use Rattle.std.proofs.Common.{arith, ap, length}
 use Rattle.lists.specs.Lists.{concat_map}
 use Rattle.rules.specs.Readings.{questions, questions_of}
 use Rattle.ledger.specs.Contents.{contents}
-use Rattle.ledger.proofs.Places.{none_left}
-use Rattle.entry_lists.proofs.ByEntry.{at_turn, asks_next, counted}
+use Rattle.ledger.proofs.Places.{none_left, at_turn}
+use Rattle.entry_lists.proofs.ByEntry.{asks_next, counted}
 use Rattle.entry_lists.proofs.count_questions.Goals as goal
 
 pub asks-count-requires : goal.asks-count-requires

@@ -5,9 +5,8 @@ use Rattle.lists.specs.Lists.{keep}
 use Rattle.lists.proofs.Listing.{next-kept, next-left}
 use Rattle.entry.specs.Entry.{plain_entry}
 use Rattle.ledger.specs.Contents.{contents}
-use Rattle.ledger.proofs.Places.{none_left}
+use Rattle.ledger.proofs.Places.{none_left, at_turn}
 use Rattle.entry_lists.specs.Runs.{item_words}
-use Rattle.entry_lists.proofs.ByEntry.{at_turn}
 use Rattle.entry_lists.proofs.Runs.{passed_by, put_one, ended, within}
 use Rattle.entry_lists.proofs.gather.Goals as goal
 use Rattle.entry_lists.proofs.gather.Goals.{in-Some, in_default}

@@ -3,8 +3,8 @@ use Rattle.std.proofs.Common.{arith, ap, sym, ◌∙◌, ◌+◌, length}
 use Rattle.lists.specs.Lists.{concat_map}
 use Rattle.rules.specs.Readings.{questions, questions_of, question_words}
 use Rattle.ledger.specs.Contents.{contents, entries_of}
-use Rattle.ledger.proofs.Places.{none_left}
-use Rattle.entry_lists.proofs.ByEntry.{at_turn, asks_few, next_asks, asks_room, next_silent}
+use Rattle.ledger.proofs.Places.{none_left, at_turn}
+use Rattle.entry_lists.proofs.ByEntry.{asks_few, next_asks, asks_room, next_silent}
 use Rattle.entry_lists.proofs.Runs.{passed_by, put-run, ended}
 use Rattle.entry_lists.proofs.write_questions.Goals as goal
 use Rattle.entry_lists.proofs.write_questions.Goals.{then-is_asking, else-is_asking}

@@ -1,5 +1,5 @@
 -- One more is put behind them.
-use Rattle.std.proofs.Common.{◌≡◌, ◌∙◌, ◌+◌, ◌*◌, ◌<◌, ◌∷◌, ◌++◌, [], List, ℕ, sym, ap, arith, drop, length, true, false, true≢false}
+use Rattle.std.proofs.Common.{◌≡◌, ◌∙◌, ◌+◌, ◌*◌, ◌<◌, ◌∷◌, ◌++◌, [], List, ℕ, sym, ap, arith, drop, true≢false}
 use Rattle.lists.specs.Lists.{all, rows, part}
 use Rattle.lists.proofs.Rows.{row_next}
 use Rattle.lists.proofs.Cuts.{rest-none}

@@ -5,7 +5,6 @@ use Rattle.std.specs.Option.{MatchOption}
 use Rattle.std.specs.Result.{result_ok}
 use Rattle.rules.specs.Plain as plain
 use Rattle.rules.specs.Words.{decomposed, admission_terms}
-use Rattle.rules.specs.Entries.{admitted}
 use Rattle.rules.specs.Snapshot.{admission_of, history_of, part_fits, marks_fit, entry_in, entry_sound}
 use Rattle.words.specs.declared.admission.Admission.{Admission}
 use Rattle.entry.specs.Entry.{plain_part, plain_entry, Means}

@@ -1,5 +1,5 @@
 -- A history that is formed is the rest of the form.
-use Rattle.std.proofs.Common.{◌∙◌, sym, ap, arith, length, length-drop, drop, take, ◌-◌}
+use Rattle.std.proofs.Common.{◌∙◌, ap, arith, length, length-drop, drop, ◌-◌}
 use Rattle.std.proofs.Math.Seq.{take_all}
 use Rattle.snapshots.specs.Form.{history_formed}
 use Rattle.snapshots.proofs.Forms.{entry_rows, unmeasured}

@@ -1,7 +1,7 @@
 -- The numbers first, then the lengths, then each entry.
-use Rattle.std.proofs.Common.{◌≡◌, ◌∙◌, ◌+◌, ◌-◌, ◌*◌, Bool, true, sym, ap, ap₂, eqb, length, drop, List, ℕ}
+use Rattle.std.proofs.Common.{◌≡◌, ◌∙◌, ◌+◌, ◌-◌, ◌*◌, sym, ap, ap₂, eqb, length, drop, List, ℕ}
 use Rattle.lists.specs.Lists.{all, total, self, part, cut}
-use Rattle.rules.specs.Snapshot.{entry_lengths, entry_count, departure_count, entries_at, entry_formed}
+use Rattle.rules.specs.Snapshot.{entry_lengths, entry_count, departure_count, entry_formed}
 use Rattle.snapshots.proofs.Forms.{uncounted, counted_rows}
 use Rattle.snapshots.proofs.form.is_formed.Goals as goal
 

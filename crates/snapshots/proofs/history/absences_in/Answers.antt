@@ -1,7 +1,5 @@
 -- One more is put behind them.
-use Rattle.std.proofs.Common.{◌≡◌, ap, arith, drop, map, ◌+◌, refl}
-use Rattle.lists.specs.Lists.{rows}
-use Rattle.rules.specs.Snapshot.{absence_in}
+use Rattle.std.proofs.Common.{◌≡◌, ap, arith, map}
 use Rattle.entry.specs.Entry.{plain_absence}
 use Rattle.snapshots.proofs.Histories.{one_more}
 use Rattle.snapshots.proofs.history.absences_in.Goals as goal

@@ -1,5 +1,4 @@
 -- What is tested of each is tested of what it means.
-use Rattle.std.proofs.Common.{◌∙◌}
 use Rattle.lists.proofs.Maps.{all_map, ascending_map}
 use Rattle.rules.specs.Numbers.{is_shard}
 use Rattle.rules.specs.Plain as plain

@@ -1,5 +1,5 @@
 -- Each absence is a row of its own.
-use Rattle.std.proofs.Common.{◌≡◌, ◌∙◌, ◌*◌, ◌+◌, ◌≤◌, ◌<◌, ◌∷◌, ◌++◌, [], ℕ, List, drop, map, take, length, get_or, ap, sym, refl, arith}
+use Rattle.std.proofs.Common.{◌≡◌, ◌+◌, ◌<◌, ◌++◌, ℕ, List, drop, take, length, get_or, ap, arith}
 use Rattle.std.proofs.Math.ListN.{length-map}
 use Rattle.lists.specs.Lists.{concat_map}
 use Rattle.lists.proofs.Cuts.{rest-none}
@@ -8,7 +8,7 @@ use Rattle.entry.specs.declared.Absence.{Absence}
 use Rattle.entry.specs.declared.Entry.{Entry}
 use Rattle.entry.specs.Entry.{absences_of, plain_absence}
 use Rattle.snapshots.proofs.Fields.{absences-size}
-use Rattle.snapshots.proofs.Putting.{none_yet, one_put, all_put, room, next_row}
+use Rattle.snapshots.proofs.Putting.{one_put, all_put, room, next_row}
 use Rattle.snapshots.proofs.put.put_absences.Goals as goal
 
 -- the absences

@@ -1,8 +1,8 @@
 -- The absences put down and those still to come are all of them.
-use Rattle.std.proofs.Common.{drop, map, take}
+use Rattle.std.proofs.Common.{drop}
 use Rattle.lists.specs.Lists.{concat_map}
 use Rattle.rules.specs.Snapshot.{absence_words}
-use Rattle.entry.specs.Entry.{plain_absence, absences_of}
+use Rattle.entry.specs.Entry.{absences_of}
 use Rattle.snapshots.proofs.Putting.{Going}
 use Rattle.snapshots.proofs.put.put_absences.Given as goal
 

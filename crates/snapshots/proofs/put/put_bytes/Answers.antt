@@ -1,7 +1,7 @@
 -- Each byte is a row of its own.
-use Rattle.std.proofs.Common.{◌+◌, ◌∷◌, [], drop, get_or, ap, arith}
+use Rattle.std.proofs.Common.{◌+◌, ◌∷◌, [], drop, get_or}
 use Rattle.lists.proofs.Cuts.{rest_more, rest-none}
-use Rattle.snapshots.proofs.Putting.{none_yet, one_put, all_put, room}
+use Rattle.snapshots.proofs.Putting.{one_put, all_put, room}
 use Rattle.snapshots.proofs.put.put_bytes.Goals as goal
 
 pub put-end-requires : goal.put-end-requires

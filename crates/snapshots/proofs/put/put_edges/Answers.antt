@@ -1,5 +1,4 @@
 -- The arrays one behind the other.
-use Rattle.std.proofs.Common.{◌∙◌, ap, take, arith}
 use Rattle.snapshots.proofs.Fields.{edges-are}
 use Rattle.snapshots.proofs.Putting.{both}
 use Rattle.snapshots.proofs.put.put_edges.Goals as goal

@@ -1,5 +1,5 @@
 -- The figures, the absences, the marks.
-use Rattle.std.proofs.Common.{◌≡◌, ◌∙◌, ap, sym, arith, length, take}
+use Rattle.std.proofs.Common.{◌≡◌, ◌∙◌, arith, length, take}
 use Rattle.std.proofs.Math.ListN.{length-map}
 use Rattle.rules.specs.Outcome.{yes_no}
 use Rattle.entry.specs.Entry.{plain_absence, absences_of, plain_entry}

@@ -1,5 +1,5 @@
 -- What is added up is at most four for each.
-use Rattle.std.proofs.Common.{◌≡◌, ◌∙◌, ◌+◌, ℕ, ap, drop, arith}
+use Rattle.std.proofs.Common.{◌≡◌, ap, drop, arith}
 use Rattle.lists.specs.Lists.{total, self}
 use Rattle.lists.proofs.Cuts.{total_more, total-within, rest-none}
 use Rattle.snapshots.proofs.put.total.Goals as goal

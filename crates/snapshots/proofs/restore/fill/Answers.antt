@@ -1,7 +1,6 @@
 -- The departures and then the entries, each where its words stand.
-use Rattle.std.proofs.Common.{◌≡◌, ◌∙◌, ◌+◌, ◌-◌, ◌*◌, sym, ap, ap₂, arith, drop, length, length-drop}
+use Rattle.std.proofs.Common.{◌∙◌, ◌+◌, ◌-◌, ◌*◌, ap, arith, drop, length, length-drop}
 use Rattle.lists.specs.Lists.{part, rows}
-use Rattle.snapshots.specs.Restore.{Files}
 use Rattle.snapshots.proofs.Filling.{formed_of, gone_at, none_gone, not_filed, ready, filled}
 use Rattle.snapshots.proofs.restore.fill.Goals as goal
 

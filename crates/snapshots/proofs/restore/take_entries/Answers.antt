@@ -1,6 +1,5 @@
 -- One more is taken in.
-use Rattle.std.proofs.Common.{◌≡◌, ◌∙◌, sym, ap, arith, false, true}
-use Rattle.rules.specs.Snapshot.{entry_sound}
+use Rattle.std.proofs.Common.{◌∙◌, sym, arith}
 use Rattle.words.proofs.Forms.{all_words_lem}
 use Rattle.snapshots.proofs.Taking.{none_taken, here, all_taken, reaches, formed, not_sound, not_last, enters, one_taken}
 use Rattle.snapshots.proofs.restore.take_entries.Goals as goal
