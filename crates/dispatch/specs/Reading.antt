@@ -24,7 +24,7 @@ lookup_of kind ws =
     (cond (eqb kind 16) local
     rebuilt))))))))
 
--- the readings that take a list, and the lookups
+-- the readings that take a list, the snapshot the last of them, and the lookups
 unfoldable pub reading_of : ℕ → List ℕ → ℕ → Reading
 reading_of kind ws room =
     cond (eqb kind 1) (ask_questions room)

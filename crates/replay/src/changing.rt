@@ -18,16 +18,16 @@ use types::Shard;
 fn made(code: Code, words: &[u64]) -> Done
     ensures { Meets (making_in code.place words.now) [] [] result }
 {
-    if code.place == RESTORE {
-        return restore(words);
-    }
     let local = Shard(word_at(words, 0));
-    making::new(
-        local,
-        word_at(words, 1),
-        word_at(words, 2),
-        word_at(words, 3),
-    )
+    match code.place {
+        RESTORE => restore(words),
+        _ => making::new(
+            local,
+            word_at(words, 1),
+            word_at(words, 2),
+            word_at(words, 3),
+        ),
+    }
 }
 
 // The ledger that a code makes, refused or not, in place of the one that stood; as often as is said, and once at least.
