@@ -5,3 +5,4 @@ pub mod InTurn
 pub mod Pruning
 pub mod Claimed
 pub mod LeftOut
+pub mod Restored

@@ -86,9 +86,12 @@ pub record NoPrune (report_list count_list : Lent) : Type 0 where
   pub counts : count_list.is ≡ count_list.was
 
 -- The claim about a list of calls and the clocks after it, from a ledger that holds `start`: 'a fresh ledger is what a making hands back, a
--- refused one too' (`claim::run_and_prune`), or any that a call handed back (`run_and_prune_from`). `start` is fed nothing but the calls' arguments and
--- the lengths of their lent lists; shut out: a program that is right only of what it holds itself. It holds of 'every list of calls'
--- (`decode` reaches each, proofs/Decoding.antt) and of every list of clocks, so also after each call.
+-- refused one too' (`claim::run_and_prune`); 'a restored ledger may then stand in place of a fresh one', and `start` is 'what the snapshot says',
+-- or what a refused making hands back where the reader refuses the words (`restore_and_prune`); or any that a call handed back
+-- (`run_and_prune_from`). A restored one is what some list of calls makes of a fresh one, so its claim is that of the fresh one with these calls in
+-- front (proofs/Restored.antt). `start` is fed nothing but the calls' arguments and the lengths of their lent lists; shut out: a program that is
+-- right only of what it holds itself. It holds of 'every list of calls' (`decode` reaches each, proofs/Decoding.antt) and of every list of clocks, so
+-- also after each call.
 pub record Claim (start : Plain) (calls : List Call) (clocks : List ℕ) (k : ℕ) (call_list report_list count_list : Lent) (r : RunAndPruned) : Type 0 where
   -- 'the contents are what the rules give for that list'; shut out: a call left out, made twice, or lent a longer list than it asks for
   pub listed : Equals (run calls start) r.before

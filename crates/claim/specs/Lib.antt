@@ -1,3 +1,4 @@
 pub mod Calls
 pub mod Series
 pub mod Claim
+pub mod Restored

@@ -1,7 +1,7 @@
 -- The readings by number: which reading a kind is, on which of its words, with a lent list of which length.
 use Rattle.std.specs.Prelude.{ℕ, cond, List, eqb}
 use Rattle.rules.specs.Words.{word}
-use Rattle.rules.specs.Readings.{Reading, ask_questions, open_at, answers, list_past_deadline, list_issuers, list_claimants, list_counterparts, list_unstamped, reach, abandonment, covered, departed, executed, reaches_beyond, issued_by, local, rebuilt}
+use Rattle.rules.specs.Readings.{Reading, ask_questions, open_at, answers, list_past_deadline, list_issuers, list_claimants, list_counterparts, list_unstamped, reach, abandonment, covered, departed, executed, reaches_beyond, issued_by, local, rebuilt, take_snapshot}
 
 -- words that are missing count as 0
 abbrev pub question_open : List ℕ → Reading
@@ -24,7 +24,7 @@ lookup_of kind ws =
     (cond (eqb kind 16) local
     rebuilt))))))))
 
--- the readings that take a list, and the lookups
+-- the readings that take a list, the snapshot the last of them, and the lookups
 unfoldable pub reading_of : ℕ → List ℕ → ℕ → Reading
 reading_of kind ws room =
     cond (eqb kind 1) (ask_questions room)
@@ -34,4 +34,5 @@ reading_of kind ws room =
     (cond (eqb kind 7) (list_counterparts (word 0 ws) (word 1 ws) room)
     (cond (eqb kind 8) (list_unstamped room)
     (cond (eqb kind 9) (reach (word 0 ws) room)
-    (lookup_of kind ws)))))))
+    (cond (eqb kind 18) (take_snapshot room)
+    (lookup_of kind ws))))))))

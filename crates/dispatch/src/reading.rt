@@ -13,6 +13,7 @@ use lists::slices::word_at;
 use readings::lookups;
 use readings::lookups::Question;
 use shard_lists::{claimants, counterparts, reach, unstamped_departures};
+use snapshots::write::snapshot;
 use types::refusal::Refusal;
 use types::{RecordKey, Shard, Time, Transaction};
 
@@ -34,6 +35,7 @@ pub fn ask(ledger: &Ledger, kind: u64, words: &[u64], lent: &mut [u64]) -> Resul
         7 => counterparts(ledger, tx, b, lent),
         8 => unstamped_departures(ledger, lent),
         9 => reach(ledger, tx, lent),
+        18 => snapshot(ledger, lent),
         _ => look_up(ledger, kind, words),
     }
 }

@@ -1,3 +1,3 @@
 pub mod Replied
-pub mod Sizes
 pub mod Names
+pub mod Dumped

@@ -1,4 +1,4 @@
--- The names of a script make the calls and readings that they say, by computing.
+-- The names of a script make the makings, calls and readings that they say, by computing.
 -- Assumes nothing.
 use Prim.Native.Nat.{ℕ}
 use mathlib.Core.Path.{refl}
@@ -10,4 +10,4 @@ use Rattle.replay.specs.Names.{Named}
 
 pub names : (ws : List ℕ) (room : ℕ) → Named ws room
 unfolding call_of lookup_of reading_of code_of
-names ws room = record { calls = refl; readings = refl }
+names ws room = record { makings = refl; calls = refl; readings = refl }

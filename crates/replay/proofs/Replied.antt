@@ -40,7 +40,7 @@ changed_held code words zero l was now reply r c = c.held
 changed_held code words (suc n) l was now reply r c = c.held
 
 -- one turn of a reading; the list may have been filled and read into before
-pub asked : (code kind : ℕ) (words : List ℕ) (l : Ledger) (was before list now : List ℕ) (r : Result ℕ Refusal) → kind ≡ code - 15 → length before ≡ length was →
+pub asked : (code kind : ℕ) (words : List ℕ) (l : Ledger) (was before list now : List ℕ) (r : Result ℕ Refusal) → kind ≡ code - 16 → length before ≡ length was →
     list ≡ replicate (length before) fill_word → Reads (read (reading_of kind words (length list)) (contents l)) list now r →
     Asked code words l was now r
 asked code kind words l was before list now r k s f reads =

@@ -1,8 +1,10 @@
 -- What a line of a script does: the call that its code, numbers and lent list name, as often as it is made.
-use Rattle.std.specs.Prelude.{ℕ, zero, suc, ◌-◌, List, [], map, length, Result}
+use Rattle.std.specs.Prelude.{ℕ, zero, suc, ◌-◌, cond, List, [], map, eqb, length, Result}
 use Rattle.rules.specs.Words.{word}
+use Rattle.rules.specs.Outcome.{Outcome}
 use Rattle.rules.specs.Calls.{Call, making}
 use Rattle.rules.specs.Readings.{Reading, read}
+use Rattle.rules.specs.Snapshot.{restoring}
 use Rattle.types.specs.declared.refusal.Refusal.{Refusal}
 use Rattle.ledger.specs.declared.Ledger.{Ledger}
 use Rattle.ledger.specs.Contents.{contents}
@@ -23,19 +25,23 @@ fill_word = 11936128518282651045
 abbrev pub filled : List ℕ → List ℕ
 filled list = map (λ w. fill_word) list
 
--- by the codes of script calls: 2 to 15 the changing calls, from 16 on the readings
+-- by the codes of script calls: 1 and 2 the makings, 3 to 16 the changing calls, from 17 on the readings
+abbrev pub making_in : ℕ → List ℕ → Outcome
+making_in code ws = cond (eqb code 2) (restoring ws) (making (word 0 ws) (word 1 ws) (word 2 ws) (word 3 ws))
+
 abbrev pub call_in : ℕ → List ℕ → ℕ → Call
-call_in code words room = call_of (code - 1) words room
+call_in code words room = call_of (code - 2) words room
 
 abbrev pub reading_in : ℕ → List ℕ → ℕ → Reading
-reading_in code words room = reading_of (code - 15) words room
+reading_in code words room = reading_of (code - 16) words room
 
 -- what a call says
 abbrev pub Reply : Type 0
 Reply = Result (List ℕ) Refusal
 
-abbrev pub Renewed : List ℕ → Reply → Ledger → Type 0
-Renewed ws reply r = Meets (making (word 0 ws) (word 1 ws) (word 2 ws) (word 3 ws)) [] [] (saying reply r)
+-- what is said of a line that makes a ledger, and this ledger, which is there where the making is refused too
+abbrev pub Renewed : ℕ → List ℕ → Reply → Ledger → Type 0
+Renewed code ws reply r = Meets (making_in code ws) [] [] (saying reply r)
 
 -- of a line's code, numbers and lent list: what is said, the list after it, and the ledger after it
 abbrev pub Changed : ℕ → List ℕ → ℕ → Ledger → List ℕ → List ℕ → Reply → Ledger → Type 0

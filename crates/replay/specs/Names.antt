@@ -1,24 +1,32 @@
--- Which call and which reading each name of a script makes: from the script's table of names to the rules.
+-- Which making, which call and which reading each name of a script makes: from the script's table of names to the rules.
 use Rattle.std.specs.Prelude.{ℕ, ◌≡◌, List, [], ◌∷◌, map, take, drop, Some}
 use Rattle.std.specs.Option.{option_map}
 use Rattle.rules.specs.Words.{word}
 use Rattle.rules.specs.Calls as rules
 use Rattle.rules.specs.Readings as readings
 use Rattle.script.specs.Calls.{names, code_of}
-use Rattle.replay.specs.Lines.{call_in, reading_in}
+use Rattle.rules.specs.Snapshot.{restoring}
+use Rattle.replay.specs.Lines.{making_in, call_in, reading_in}
+
+-- new, restore: those after `repeat`
+abbrev pub making_names : List (List ℕ)
+making_names = take 2 (drop 1 names)
 
 -- register_committed, record_absence, certify, record_abandonment, settled, returned, closes, fated, release_resolved, forget,
--- record_terminal, stamp_terminal, prune, bundle: the script's names after `repeat` and `new`
+-- record_terminal, stamp_terminal, prune, bundle: the script's names after `restore`
 abbrev pub changing_names : List (List ℕ)
-changing_names = take 14 (drop 2 names)
+changing_names = take 14 (drop 3 names)
 
 -- questions, open_at, answers, past_deadline, issuers_of, claimants, counterparts, unstamped_departures, reach, abandonment_answers, is_covered,
--- departed, executed, reaches_beyond, issued_by, local, rebuilt: those before `dump`
+-- departed, executed, reaches_beyond, issued_by, local, rebuilt, snapshot: those before `dump`
 abbrev pub reading_names : List (List ℕ)
-reading_names = take 17 (drop 16 names)
+reading_names = take 18 (drop 17 names)
 
 -- what each name makes of a line's numbers and the length of its list
 pub record Named (ws : List ℕ) (room : ℕ) : Type 0 where
+  pub makings :
+      map (λ name. option_map (λ code. making_in code ws) (code_of name)) making_names ≡
+      map Some (rules.making (word 0 ws) (word 1 ws) (word 2 ws) (word 3 ws) ∷ restoring ws ∷ [])
   pub calls :
       map (λ name. option_map (λ code. call_in code ws room) (code_of name)) changing_names ≡
       map Some
@@ -57,4 +65,5 @@ pub record Named (ws : List ℕ) (room : ℕ) : Type 0 where
       ∷ readings.issued_by (word 0 ws) (word 1 ws)
       ∷ readings.local
       ∷ readings.rebuilt
+      ∷ readings.take_snapshot room
       ∷ [])

@@ -1,44 +1,32 @@
-// The whole ledger, each of its words behind a space.
-use crate::entries;
+// The whole ledger, each of its words behind a space: those of its snapshot without the entries' lengths, and the index.
+ghost use Rattle.ledger.specs.Contents.{Held};
+ghost use Rattle.replay.specs.Dump.{Taken};
+
 use ledger::Ledger;
 use script::Writer;
+use snapshots::write::snapshot;
 use std::io::Write;
-use store::departures::{Departure, Departures};
 use store::issuers::Issuers;
 use types::Transaction;
 
-pub fn put_ledger<W: Write>(writer: &mut Writer<W>, ledger: &Ledger) {
-    writer.put_words(&[
-        ledger.local.0,
-        ledger.validity,
-        ledger.core_span,
-        ledger.leg_span,
-        ledger.rebuilt,
-        ledger.roster.len as u64,
-        ledger.departures.front.len as u64,
-        ledger.issuers.len as u64,
-    ]);
-    put_entries(writer, ledger);
-    put_departures(writer, &ledger.departures);
+// Takes the snapshot, which is never refused, since 5,895 words hold every one, and answers how many words it has.
+fn put_snapshot(ledger: &Ledger, words: &mut [u64; 5895]) -> usize
+    requires { Held ledger.now }
+    ensures { Taken ledger.now words.new result }
+{
+    snapshot(ledger, words).unwrap_or(0) as usize
+}
+
+pub fn put_ledger<W: Write>(writer: &mut Writer<W>, ledger: &Ledger)
+    requires { Held ledger.now }
+{
+    let mut words = [0; 5895];
+    let end = put_snapshot(ledger, &mut words);
+    let entries_at = 7 + ledger.roster.len;
+    writer.put_words(&words[..7]);
+    writer.put_word(ledger.issuers.len as u64);
+    writer.put_words(&words[entries_at..end]);
     put_index(writer, &ledger.issuers);
-}
-
-// By rising transaction.
-fn put_entries<W: Write>(writer: &mut Writer<W>, ledger: &Ledger) {
-    for slot in &ledger.roster.slots[..ledger.roster.len] {
-        entries::put_entry(writer, &ledger.entries[*slot]);
-    }
-}
-
-fn put_departures<W: Write>(writer: &mut Writer<W>, departures: &Departures) {
-    for departure in departures.front.as_slice() {
-        put_departure(writer, *departure);
-    }
-}
-
-fn put_departure<W: Write>(writer: &mut Writer<W>, d: Departure) {
-    let until = d.until.map_or(0, |time| time.0);
-    writer.put_words(&[d.shard.0, d.cut.0, d.until.is_some() as u64, until]);
 }
 
 // Record and transaction of each pair.

@@ -3,12 +3,11 @@
 
 mod changing;
 mod dump;
-mod entries;
 mod reading;
 mod replies;
 
 use calls::making;
-use script::calls::{BUNDLE, DUMP, NEW};
+use script::calls::{BUNDLE, DUMP, RESTORE};
 use script::{Line, Reader, Writer};
 use types::Shard;
 
@@ -40,9 +39,10 @@ fn main(rt: HostRuntime) {
         let times = repeat.take().unwrap_or(1);
         let words = &numbers[..call.count];
         let list = &mut lent[..call.lent];
-        // By the order of the table: the changing calls up to `bundle`, the readings up to `dump`, of which `put_reply` writes what is held.
+        // By the order of the table: the makings, the changing calls up to `bundle`, the readings up to `dump`, of which `put_reply` writes what is
+        // held.
         let reply = match code.place {
-            NEW => changing::renew(&mut ledger, words, times),
+            ..=RESTORE => changing::renew(&mut ledger, code, words, times),
             ..=BUNDLE => changing::apply(&mut ledger, code, words, list, times),
             ..DUMP => reading::ask(&ledger, code, words, list, times).map(|answer| [answer, 0, 0]),
             _ => Ok([0; 3]),

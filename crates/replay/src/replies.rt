@@ -1,5 +1,6 @@
 // The lines that are written: the answer to a call, and the one that stops a script.
 ghost use Rattle.std.specs.Prelude.{◌≤◌};
+ghost use Rattle.ledger.specs.Contents.{Held};
 
 use crate::dump;
 use ledger::Ledger;
@@ -16,7 +17,8 @@ fn answers_of(code: Code) -> usize
     ensures { result ≤ 3 }
 {
     match code.place {
-        codes::NEW | codes::CERTIFY | codes::SETTLED | codes::RETURNED => 0,
+        codes::NEW | codes::RESTORE | codes::CERTIFY => 0,
+        codes::SETTLED | codes::RETURNED => 0,
         codes::RECORD_TERMINAL | codes::STAMP_TERMINAL | codes::DUMP => 0,
         codes::PRUNE => 2,
         codes::BUNDLE => 3,
@@ -31,7 +33,9 @@ pub fn put_reply<W: Write>(
     reply: Reply,
     ledger: &Ledger,
     list: &[u64],
-) {
+)
+    requires { Held ledger.now }
+{
     put_answers(writer, call.code, reply);
     if call.code.place == codes::DUMP {
         dump::put_ledger(writer, ledger);

@@ -19,6 +19,7 @@ abbrev pub calls : List Call
 calls =
     called "repeat" (Some 1) None
     ∷ called "new" (Some 4) None
+    ∷ called "restore" None None
     ∷ called "register_committed" None None
     ∷ called "record_absence" (Some 3) None
     ∷ called "certify" (Some 2) None
@@ -50,6 +51,7 @@ calls =
     ∷ called "issued_by" (Some 2) None
     ∷ called "local" (Some 0) None
     ∷ called "rebuilt" (Some 0) None
+    ∷ called "snapshot" (Some 0) (Some 1)
     ∷ called "dump" (Some 0) None
     ∷ []
 

@@ -9,21 +9,23 @@ pub const REPEAT: usize = 0;
 
 pub const NEW: usize = 1;
 
-pub const CERTIFY: usize = 4;
+pub const RESTORE: usize = 2;
 
-pub const SETTLED: usize = 6;
+pub const CERTIFY: usize = 5;
 
-pub const RETURNED: usize = 7;
+pub const SETTLED: usize = 7;
 
-pub const RECORD_TERMINAL: usize = 12;
+pub const RETURNED: usize = 8;
 
-pub const STAMP_TERMINAL: usize = 13;
+pub const RECORD_TERMINAL: usize = 13;
 
-pub const PRUNE: usize = 14;
+pub const STAMP_TERMINAL: usize = 14;
 
-pub const BUNDLE: usize = 15;
+pub const PRUNE: usize = 15;
 
-pub const DUMP: usize = 33;
+pub const BUNDLE: usize = 16;
+
+pub const DUMP: usize = 35;
 
 // A call's place in the table.
 #[derive(Clone, Copy)]
@@ -37,11 +39,12 @@ pub struct Code {
 struct Row(&'static [u8], Option<usize>, Option<usize>);
 
 // How many calls there are.
-const CODES: usize = 34;
+const CODES: usize = 36;
 
 const ROWS: [Row; CODES] = [
     Row(b"repeat", Some(1), None),
     Row(b"new", Some(4), None),
+    Row(b"restore", None, None),
     Row(b"register_committed", None, None),
     Row(b"record_absence", Some(3), None),
     Row(b"certify", Some(2), None),
@@ -73,6 +76,7 @@ const ROWS: [Row; CODES] = [
     Row(b"issued_by", Some(2), None),
     Row(b"local", Some(0), None),
     Row(b"rebuilt", Some(0), None),
+    Row(b"snapshot", Some(0), Some(1)),
     Row(b"dump", Some(0), None),
 ];
 
