@@ -1,0 +1,4 @@
+pub mod Sizes
+pub mod Comes
+pub mod Goes
+pub mod Reported
