@@ -1,9 +1,9 @@
 -- Bytes that come in: those that are whole words, and no more than a snapshot's, are read as these; all others are refused as no words are.
 -- Assumes nothing.
-use Prim.Native.Nat.{ℕ, zero, suc, ◌+◌, ◌*◌, ◌/◌, ◌%◌, ◌^◌, ◌≤◌, ◌<◌}
+use Prim.Native.Nat.{ℕ, ◌*◌, ◌/◌, ◌%◌, ◌^◌, ◌≤◌, ◌<◌}
 use mathlib.Core.Path.{◌≡◌, refl, sym, ap, ◌∙◌}
 use mathlib.Core.Bool.{Bool, true, false, not, cond, ◌&&◌}
-use mathlib.Core.List.{List, [], ◌∷◌}
+use mathlib.Core.List.{List, []}
 use native.Mathlib.Omega.{arith}
 use lib.Dec.{eqb, leb}
 use lib.ListN.{length, take, get_or}
@@ -17,7 +17,7 @@ use Rattle.rules.specs.Numbers.{is_word}
 use Rattle.rules.specs.Good.{Holds}
 use Rattle.rules.specs.Outcome.{Outcome, done, unless, ◌gives◌then◌}
 use Rattle.rules.specs.Calls.{not_made}
-use Rattle.rules.specs.Snapshot.{ledger_in, snapshot_formed, snapshot_refusal, snapshot_words, restoring}
+use Rattle.rules.specs.Snapshot.{ledger_in, snapshot_formed, snapshot_refusal, restoring}
 use Rattle.rules.proofs.Kept.{unless-refused, unless-none}
 use Rattle.rules.proofs.SnapshotBack.{read_written}
 use Rattle.word_bytes.specs.Bytes.{bytes_of, are_words, words_in}

@@ -1,19 +1,16 @@
 -- What goes out: a refused call's number alone, or the ledger's snapshot and what is told beside it, each in the front of its slice.
 -- Assumes nothing.
-use Prim.Native.Nat.{ℕ, zero, suc, ◌+◌, ◌*◌, ◌≤◌, ◌<◌}
+use Prim.Native.Nat.{ℕ, zero, suc, ◌*◌, ◌≤◌, ◌<◌}
 use mathlib.Core.Path.{◌≡◌, refl, sym, ap, ◌∙◌, subst}
-use mathlib.Core.Bool.{Bool, true, false, ◌||◌}
 use mathlib.Core.List.{List, [], ◌∷◌, ◌++◌}
 use native.Mathlib.Omega.{arith}
-use lib.Dec.{ltb}
-use lib.ListN.{length, take, drop, length-append}
+use lib.ListN.{length, take, drop}
 use lib.Seq.{take_at}
 use borrow.Author.Tests.{lt-ltb, le-ltb}
 use Rattle.std.specs.Prelude.{Result, Ok, Err}
 use Rattle.std.specs.Result.{result_unwrap_or}
 use Rattle.lists.proofs.Sets.{concat_map-single}
 use Rattle.rules.specs.Plain.{Plain}
-use Rattle.rules.specs.Outcome.{◌gives◌then◌, unless}
 use Rattle.rules.specs.Readings.{read, take_snapshot}
 use Rattle.rules.specs.Good.{Good}
 use Rattle.rules.specs.Snapshot.{snapshot_words}
@@ -25,7 +22,7 @@ use Rattle.ledger.specs.Meets.{written}
 use Rattle.readings.specs.Reads.{Reads, answer_in}
 use Rattle.word_bytes.specs.Bytes.{bytes_of}
 use Rattle.word_bytes.proofs.Bytes.{length_bytes}
-use Rattle.hosts.specs.Hosts.{Given, giving, ledger_bytes, handing, Gives}
+use Rattle.hosts.specs.Hosts.{Given, ledger_bytes, handing, Gives}
 
 -- a refusal has a number above 0
 pub is_refused : (r : Refusal) → 1 ≤ refusal_number r

@@ -1,14 +1,13 @@
 -- A prune's numbers in front of its reports.
 -- Assumes nothing.
-use Prim.Native.Nat.{ℕ, zero, suc, ◌+◌, ◌*◌, ◌≤◌, ◌<◌}
+use Prim.Native.Nat.{ℕ, zero, suc, ◌+◌, ◌*◌, ◌≤◌}
 use mathlib.Core.Path.{◌≡◌, refl, sym, ap, ap₂, ◌∙◌}
 use mathlib.Core.List.{List, [], ◌∷◌, ◌++◌, append_assoc}
 use native.Mathlib.Omega.{arith}
 use borrow.Rule.Slice.PartMut.{mid_of, put_mid, post_of}
-use lib.ListN.{length, take, drop, get_or, set, length-append, length-take, length-drop}
+use lib.ListN.{length, take, drop, get_or, set, length-append, length-take}
 use lib.Seq.{take_at}
-use Rattle.std.specs.Prelude.{Result, Ok, Err}
-use Rattle.types.specs.declared.refusal.Refusal.{Refusal}
+use Rattle.std.specs.Prelude.{Ok}
 use Rattle.lists.specs.Lists.{concat_map}
 use Rattle.lists.proofs.Listing.{length-words}
 use Rattle.rules.specs.Plain.{Plain}

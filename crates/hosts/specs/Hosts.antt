@@ -1,6 +1,6 @@
 -- The calls of a host: a ledger comes in and goes out as the bytes of its snapshot, the least byte of a word first. Each is the rules' own call,
 -- with a refusal ahead of it for bytes that are no words, and one behind it for a slice that is too short.
-use Rattle.std.specs.Prelude.{ℕ, zero, suc, ◌≡◌, ◌≤◌, Bool, cond, not, ◌&&◌, ◌||◌, List, [], ◌++◌, ◌%◌, ◌/◌, eqb, ltb, leb, length, take}
+use Rattle.std.specs.Prelude.{ℕ, zero, suc, ◌≡◌, ◌≤◌, cond, not, ◌&&◌, ◌||◌, List, [], ◌++◌, ◌%◌, ◌/◌, eqb, ltb, leb, length, take}
 use Rattle.std.specs.Prelude.{Result, Ok, Err}
 use Rattle.word_bytes.specs.Bytes.{bytes_of, are_words, words_in}
 use Rattle.rules.specs.Plain.{Plain}

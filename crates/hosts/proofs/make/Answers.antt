@@ -1,8 +1,7 @@
 -- A making that is refused gives its number; else the ledger goes out.
-use Rattle.std.proofs.Common.{◌≡◌, refl, sym, ap, ◌∙◌, [], arith, length}
+use Rattle.std.proofs.Common.{◌≡◌, refl, sym, ap, ◌∙◌, arith}
 use Rattle.rules.specs.Calls.{making}
 use Rattle.types.specs.Refusals.{refused_in}
-use Rattle.ledger.specs.Contents.{contents}
 use Rattle.hosts.specs.Hosts.{made_for_host}
 use Rattle.hosts.proofs.Goes.{is_refused, turned_down, as_handed, no_bytes}
 use Rattle.hosts.proofs.make.Goals as goal

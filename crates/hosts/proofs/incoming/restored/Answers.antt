@@ -1,7 +1,6 @@
 -- The words that are read are those of the bytes, or none.
-use Rattle.std.proofs.Common.{ℕ, ◌≡◌, ◌*◌, ◌+◌, ◌++◌, [], arith, ap, ◌∙◌, length, take, drop, replicate}
+use Rattle.std.proofs.Common.{ℕ, ◌≡◌, ◌*◌, ◌++◌, [], arith, ap, ◌∙◌, length, take, drop, replicate}
 use mathlib.Core.Path.{subst}
-use lib.ListN.{length-replicate}
 use lib.Seq.{take_at, length-take-le}
 use Rattle.rules.specs.Snapshot.{restoring}
 use Rattle.ledger.specs.Meets.{Meets}

@@ -1,12 +1,12 @@
 -- The words of the ledger's snapshot are at hand, and both slices are long enough or nothing is written.
-use Rattle.std.proofs.Common.{ℕ, List, [], refl, take, ◌≡◌, ◌≤◌, ◌*◌, arith, length, replicate, sym, ap, ◌∙◌}
+use Rattle.std.proofs.Common.{ℕ, [], refl, take, ◌≡◌, arith, length, sym, ap, ◌∙◌}
 use mathlib.Core.Path.{subst}
 use lib.ListN.{length-replicate}
 use lib.Seq.{length-take-le}
 use Rattle.rules.specs.Snapshot.{snapshot_words}
 use Rattle.ledger.specs.Contents.{contents}
 use Rattle.hosts.specs.Hosts.{Given, Gives}
-use Rattle.hosts.proofs.Goes.{Wrote, wrote_all, handed, out_short, reports_short, put_written}
+use Rattle.hosts.proofs.Goes.{wrote_all, handed, out_short, reports_short, put_written}
 use Rattle.hosts.proofs.outgoing.hand_out.Goals as goal
 use Rattle.hosts.proofs.outgoing.hand_out.Goals.{then-out-n-via-then-out-n, then-out-n-via-else-out-n+then-reports-told}
 

@@ -1,5 +1,5 @@
 -- The prune writes its reports behind the place of its two numbers, which are then put there.
-use Rattle.std.proofs.Common.{◌≡◌, arith, length, drop}
+use Rattle.std.proofs.Common.{arith, drop}
 use lib.ListN.{length-drop}
 use lib.Seq.{length-take-le}
 use Rattle.ledger.specs.Contents.{contents}
