@@ -2,3 +2,4 @@ pub mod Sizes
 pub mod Comes
 pub mod Goes
 pub mod Reported
+pub mod Worked
