@@ -21,7 +21,7 @@ static size_t snapshot_len(const uint8_t *bytes) {
     for (size_t i = 0; i < entries; i++) {
         words += word(bytes, 7 + i);
     }
-    return 8 * words;
+    return words * 8;
 }
 
 /* A ledger with one entry, which a record of shard 5 names, and one departure, of shard 6. */

@@ -61,8 +61,13 @@ fn prunes_beside_the_original() {
     let mut script = String::new();
     let mut cases = Vec::new();
     for _ in 0..LEDGERS {
-        let mut words = random.ledger().words();
-        if random.one_in(4) {
+        let mut ledger = random.ledger();
+        let kind = random.below(8);
+        if kind == 0 {
+            random.spoil(&mut ledger);
+        }
+        let mut words = ledger.words();
+        if kind == 1 {
             random.damage(&mut words);
         }
         let now = random.time();

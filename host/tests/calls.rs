@@ -156,16 +156,18 @@ fn damaged_snapshots() {
     let mut random = Random::new(2);
     let mut given = [0usize; 14];
     for round in 0..30_000 {
-        let mut words = if round % 50 == 0 {
+        let mut ledger = if round % 50 == 0 {
             Random::full()
         } else {
             random.ledger()
+        };
+        let spoilt = round % 3 != 0;
+        if spoilt {
+            random.spoil(&mut ledger);
         }
-        .words();
-        for _ in 0..=random.below(2) {
-            if !words.is_empty() {
-                random.damage(&mut words);
-            }
+        let mut words = ledger.words();
+        if !spoilt || random.one_in(10) {
+            random.damage(&mut words);
         }
         let bytes = bytes_of(&words);
         given[check_read(&bytes, bytes.len(), round % 16) as usize] += 1;
@@ -184,7 +186,7 @@ fn damaged_snapshots() {
         "damaged: {} accepted, {} by 12, {} by 13",
         given[0], given[12], given[13]
     );
-    assert!(given[0] > 1000 && given[12] > 1000 && given[13] > 1000);
+    assert!(given[0] > 4_000 && given[12] > 4_000 && given[13] > 4_000);
 }
 
 #[test]

@@ -82,3 +82,66 @@ fn shown_on_the_page() {
         );
     }
 }
+
+#[test]
+fn the_example_on_the_page() {
+    let page = text("../docs/HOSTS.md");
+    let (_, rows) = page
+        .split_once("word  value  bytes")
+        .expect("the example's table is there");
+    let (rows, _) = rows.split_once("```").expect("it ends");
+    let mut snapshot = Vec::new();
+    for (i, row) in rows.lines().skip(1).enumerate() {
+        let fields: Vec<_> = row.split_whitespace().collect();
+        let bytes = fields[2..10]
+            .iter()
+            .map(|b| u8::from_str_radix(b, 16).expect("a byte"));
+        let value = match fields[1] {
+            "2^62" => 1 << 62,
+            number => number.parse::<u64>().expect("a word"),
+        };
+        assert_eq!(fields[0].parse(), Ok(i));
+        assert!(bytes.clone().eq(value.to_le_bytes()), "{row}");
+        snapshot.extend(bytes);
+    }
+    // The page's words are those of both programs.
+    assert_eq!(snapshot.len(), 224);
+    let mut out = [0; 224];
+    assert_eq!(owed_ledger::slices::read(&snapshot, &mut out), Ok(()));
+    let shown = |program: &str, from: &str| -> Vec<u64> {
+        let (_, list) = program.split_once(from).expect("the program has the words");
+        let (list, _) = list
+            .split_once('}')
+            .or(list.split_once(']'))
+            .expect("they end");
+        let (list, _) = list.split_once("];").unwrap_or((list, ""));
+        let plain = list.lines().map(|l| {
+            l.split("/*")
+                .next()
+                .and_then(|l| l.split("//").next())
+                .unwrap_or("")
+        });
+        let plain: String = plain.collect();
+        let words = plain.split(',').map(str::trim).filter(|w| !w.is_empty());
+        words
+            .map(|w| {
+                if w.ends_with("<< 62") {
+                    1 << 62
+                } else {
+                    w.parse().expect("a word")
+                }
+            })
+            .collect()
+    };
+    let words: Vec<u64> = snapshot
+        .as_chunks()
+        .0
+        .iter()
+        .map(|w| u64::from_le_bytes(*w))
+        .collect();
+    assert_eq!(shown(&text("examples/ledger.c"), "stored[28] = {"), words);
+    assert_eq!(
+        shown(&text("examples/ledger.rs"), "STORED: [u64; 28] = ["),
+        words
+    );
+}

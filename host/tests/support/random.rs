@@ -268,4 +268,61 @@ impl Random {
             _ => words.truncate(at),
         }
     }
+
+    /// The ledger with something that no call leaves, or at least with something else, in words that keep a snapshot's form.
+    pub fn spoil(&mut self, ledger: &mut Plain) {
+        let n = ledger.entries.len() as u64;
+        if n == 0 || self.one_in(5) {
+            return self.spoil_frame(ledger);
+        }
+        let other = self.below(n) as usize;
+        let shard = self.of(&[0, 1, ledger.local, 16, (1 << 33) - 1, 1 << 33, u64::MAX]);
+        let time = self.of(&[0, (1 << 48) - 1, 1 << 48, u64::MAX]);
+        let code = self.below(4);
+        let at = self.below(n) as usize;
+        let transaction = ledger.entries[other].transaction;
+        let issued = ledger.entries[at].issued(ledger.local);
+        let e = &mut ledger.entries[at];
+        match self.below(16) {
+            0 => e.transaction = transaction,
+            1 => e.at = time,
+            2 => e.end = time,
+            3 => e.anchor = time,
+            4 => e.decomposed = code,
+            5 => e.part = [Part::Whole, Part::Leg, Part::Core, Part::Remainder][code as usize],
+            6 => e.certificate = code,
+            7 => e.named = shard,
+            8 => e.returned = code,
+            9 => e.core.iter_mut().take(1).for_each(|s| *s = shard),
+            10 => e.core.retain(|s| *s != ledger.local),
+            11 => e.edges.iter_mut().take(1).for_each(|g| g.from = shard),
+            12 => e.edges.iter_mut().for_each(|g| g.kind = code),
+            13 => e
+                .edges
+                .iter_mut()
+                .flat_map(|g| g.to.first_mut())
+                .for_each(|s| *s = shard),
+            14 => e.marks = issued.into_iter().chain([self.below(12)]).take(8).collect(),
+            _ => e.absences = vec![(shard, 7), (self.shard(), 7)],
+        }
+    }
+
+    fn spoil_frame(&mut self, ledger: &mut Plain) {
+        let span = self.of(&[0, 1, 1 << 40, (1 << 40) + 1]);
+        let shard = self.of(&[0, 1, (1 << 33) - 1, 1 << 33]);
+        let time = self.of(&[0, 1, (1 << 48) - 1, 1 << 48]);
+        let code = self.below(3);
+        let d = ledger.departures.first_mut();
+        match (self.below(8), d) {
+            (0, _) => ledger.local = shard,
+            (1, _) => ledger.v = span,
+            (2, _) => ledger.c = span,
+            (3, _) => ledger.l = span,
+            (4, Some(d)) => d.shard = shard,
+            (5, Some(d)) => d.cut = time,
+            (6, Some(d)) => d.stamped = code,
+            (7, Some(d)) => d.until = time,
+            _ => ledger.count = self.word(),
+        }
+    }
 }
