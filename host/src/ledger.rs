@@ -9,7 +9,7 @@ pub struct Spans {
     pub validity: u64,
     /// The length of the Core window.
     pub core: u64,
-    /// The length of the LegEntry window.
+    /// The length of the `LegEntry` window.
     pub leg: u64,
 }
 

@@ -83,6 +83,25 @@ fn shown_on_the_page() {
     }
 }
 
+/// The words of a list in a program, without the remarks behind them.
+fn words_in(program: &str, from: &str, to: &str) -> Vec<u64> {
+    let program = text(program);
+    let (_, list) = program.split_once(from).expect("the program has the words");
+    let (list, _) = list.split_once(to).expect("they end");
+    let plain = list
+        .lines()
+        .map(|line| line.split('/').next().unwrap_or(""));
+    let words = plain.flat_map(|line| line.split(',')).map(str::trim);
+    let word = |w: &str| {
+        if w.ends_with("<< 62") {
+            1 << 62
+        } else {
+            w.parse().expect("a word")
+        }
+    };
+    words.filter(|w| !w.is_empty()).map(word).collect()
+}
+
 #[test]
 fn the_example_on_the_page() {
     let page = text("../docs/HOSTS.md");
@@ -108,31 +127,6 @@ fn the_example_on_the_page() {
     assert_eq!(snapshot.len(), 224);
     let mut out = [0; 224];
     assert_eq!(owed_ledger::slices::read(&snapshot, &mut out), Ok(()));
-    let shown = |program: &str, from: &str| -> Vec<u64> {
-        let (_, list) = program.split_once(from).expect("the program has the words");
-        let (list, _) = list
-            .split_once('}')
-            .or(list.split_once(']'))
-            .expect("they end");
-        let (list, _) = list.split_once("];").unwrap_or((list, ""));
-        let plain = list.lines().map(|l| {
-            l.split("/*")
-                .next()
-                .and_then(|l| l.split("//").next())
-                .unwrap_or("")
-        });
-        let plain: String = plain.collect();
-        let words = plain.split(',').map(str::trim).filter(|w| !w.is_empty());
-        words
-            .map(|w| {
-                if w.ends_with("<< 62") {
-                    1 << 62
-                } else {
-                    w.parse().expect("a word")
-                }
-            })
-            .collect()
-    };
     let words: Vec<u64> = snapshot
         .as_chunks()
         .0
@@ -140,8 +134,9 @@ fn the_example_on_the_page() {
         .map(|w| u64::from_le_bytes(*w))
         .collect();
     assert_eq!(shown(&text("examples/ledger.c"), "stored[28] = {"), words);
+    assert_eq!(words_in("examples/ledger.c", "stored[28] = {", "};"), words);
     assert_eq!(
-        shown(&text("examples/ledger.rs"), "STORED: [u64; 28] = ["),
+        words_in("examples/ledger.rs", "STORED: [u64; 28] = [", "];"),
         words
     );
 }
