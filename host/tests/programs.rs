@@ -133,7 +133,6 @@ fn the_example_on_the_page() {
         .iter()
         .map(|w| u64::from_le_bytes(*w))
         .collect();
-    assert_eq!(shown(&text("examples/ledger.c"), "stored[28] = {"), words);
     assert_eq!(words_in("examples/ledger.c", "stored[28] = {", "};"), words);
     assert_eq!(
         words_in("examples/ledger.rs", "STORED: [u64; 28] = [", "];"),

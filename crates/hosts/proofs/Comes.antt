@@ -8,20 +8,23 @@ use native.Mathlib.Omega.{arith}
 use lib.Dec.{eqb, leb}
 use lib.ListN.{length, take, get_or}
 use lib.Seq.{take_all}
-use borrow.Author.Tests.{leb-true, leb-false, eqb-true, lt-ltb}
+use borrow.Author.Tests.{leb-true, leb-false, eqb-true, eq-eqb, ltb-true, lt-ltb}
 use mir.Syntax.{w8}
 use mir.Val.{Fits}
 use Rattle.lists.specs.Lists.{Every}
 use Rattle.lists.proofs.Keep.{every_more}
 use Rattle.rules.specs.Numbers.{is_word}
-use Rattle.rules.specs.Good.{Holds}
+use Rattle.rules.specs.Good.{Good, Holds}
 use Rattle.rules.specs.Outcome.{Outcome, done, unless, ◌gives◌then◌}
 use Rattle.rules.specs.Calls.{not_made}
-use Rattle.rules.specs.Snapshot.{ledger_in, snapshot_formed, snapshot_refusal, restoring}
+use Rattle.rules.specs.Snapshot.{ledger_in, snapshot_formed, snapshot_refusal, snapshot_words, restoring}
 use Rattle.rules.proofs.Kept.{unless-refused, unless-none}
 use Rattle.rules.proofs.SnapshotBack.{read_written}
+use Rattle.rules.proofs.SnapshotWhole.{written_read}
+use Rattle.rules.proofs.SnapshotWords.{snapshot_is_words}
+use Rattle.rules.specs.Plain.{Plain}
 use Rattle.word_bytes.specs.Bytes.{bytes_of, are_words, words_in}
-use Rattle.word_bytes.proofs.Bytes.{length_words, each_byte, bytes_again, words_fit}
+use Rattle.word_bytes.proofs.Bytes.{length_words, length_bytes, each_byte, words_again, bytes_again, words_fit}
 use Rattle.hosts.specs.Hosts.{bytes_refusal, restoring_bytes, words_read, ledger_bytes}
 use Rattle.hosts.proofs.Sizes.{too_many}
 
@@ -86,3 +89,14 @@ module _ (bytes : List ℕ) (fits : (i : ℕ) → Fits w8 (get_or bytes i 0)) (e
       ap (λ (o : Outcome). ledger_bytes o.ledger) (unless-none (bytes_refusal bytes) not_made (done [] (ledger_in (words_in bytes))) none)
       ∙ ap bytes_of (read_written (words_in bytes) are_word w.1).1
       ∙ bytes_again bytes (eqb-true (length bytes % 8) 0 w.0) small
+
+-- The writing of a ledger that calls reach comes in as this ledger.
+pub comes_again : (p : Plain) → Good p → restoring_bytes (ledger_bytes p) ≡ done [] p
+unfolding restoring_bytes
+comes_again p g =
+    let ws : List ℕ = snapshot_words p in
+    let w = written_read p g in
+    let again : words_in (bytes_of ws) ≡ ws =
+    words_again ws (every_more (λ n. is_word n ≡ true) (λ n. n < 2 ^ 64) (λ n h. ltb-true n (2 ^ 64) h) ws (snapshot_is_words p g)) in
+    let all : are_words (bytes_of ws) ≡ true = eq-eqb (length (bytes_of ws) % 8) 0 (omega (arith, length_bytes ws)) in
+    rw (all, again, w.0, w.1) refl

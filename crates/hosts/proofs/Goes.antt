@@ -22,7 +22,8 @@ use Rattle.ledger.specs.Meets.{written}
 use Rattle.readings.specs.Reads.{Reads, answer_in}
 use Rattle.word_bytes.specs.Bytes.{bytes_of}
 use Rattle.word_bytes.proofs.Bytes.{length_bytes}
-use Rattle.hosts.specs.Hosts.{Given, ledger_bytes, handing, Gives}
+use Rattle.hosts.proofs.Comes.{comes_again}
+use Rattle.hosts.specs.Hosts.{Given, giving, restoring_bytes, ledger_bytes, handing, Gives, ComesAgain}
 
 -- a refusal has a number above 0
 pub is_refused : (r : Refusal) → 1 ≤ refusal_number r
@@ -125,3 +126,13 @@ module _ (n : ℕ) (p : Plain) (bytes out : List ℕ) (e : n ≡ 0) (f : ledger_
       let short = out_short p [] (length out) 0 (omega (arith, long, h)) in
       let told : handing n p [] (length out) 0 ≡ record { number = 9; out = []; reports = [] } = rw (e, short) refl in
       subst (λ g. Gives g out out [] [] r) (sym told) (record { number = c; wrote = refl; told = refl })
+
+-- what goes out of an accepted call comes in again
+out_of : (n : ℕ) (out told : List ℕ) → (giving n out told).number ≡ 0 → (giving n out told).out ≡ out
+out_of zero out told e = refl
+out_of (suc n) out told e = absurd (omega (arith, e))
+
+pub goes_and_comes : (n : ℕ) (p : Plain) (told : List ℕ) (a b : ℕ) (out after reports reports_after : List ℕ) (r : ℕ) → Good p →
+    Gives (handing n p told a b) out after reports reports_after r → ComesAgain (handing n p told a b) p r
+goes_and_comes n p told a b out after reports reports_after r g h e =
+    ap restoring_bytes (out_of _ (ledger_bytes p) (bytes_of told) (sym h.number ∙ e)) ∙ comes_again p g

@@ -76,6 +76,17 @@ pub record Gives (g : Given) (out out_after reports reports_after : List ℕ) (r
   pub wrote : out_after ≡ written g.out out
   pub told : reports_after ≡ written g.reports reports
 
+-- The ledgers that are read and pruned.
+abbrev pub ledger_read : List ℕ → Plain
+ledger_read bytes = (restoring_bytes bytes).ledger
+
+abbrev pub ledger_pruned : (bytes : List ℕ) (time : ℕ) → Plain
+ledger_pruned bytes time = (step (prune time report_room) (ledger_read bytes)).ledger
+
+-- what goes out of an accepted call comes in again, as this very ledger
+abbrev pub ComesAgain : Given → Plain → ℕ → Type 0
+ComesAgain g p r = r ≡ 0 → restoring_bytes g.out ≡ done [] p
+
 -- of a prune: what it does, and its numbers and reports in front of a list, so many words
 abbrev pub Told : Outcome → List ℕ → Result ℕ Refusal → Type 0
 Told o list (Ok n) = (n ≤ length list) × (take n list ≡ o.answers ++ o.words)

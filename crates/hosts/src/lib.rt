@@ -6,7 +6,8 @@ mod incoming;
 mod outgoing;
 
 ghost use Rattle.std.specs.Prelude.{[], length};
-ghost use Rattle.hosts.specs.Hosts.{made_for_host, read_for_host, pruned_for_host, Gives};
+ghost use Rattle.rules.specs.Calls.{making};
+ghost use Rattle.hosts.specs.Hosts.{made_for_host, read_for_host, pruned_for_host, ledger_read, ledger_pruned, Gives, ComesAgain};
 
 use calls::making::new;
 use incoming::restored;
@@ -16,7 +17,8 @@ use types::{Shard, Time};
 
 // An empty ledger is made, and goes out.
 pub fn make(local: u64, validity: u64, core_span: u64, leg_span: u64, out: &mut [u8]) -> u64
-    ensures { Gives (made_for_host local validity core_span leg_span (length out.old)) out.old out.new [] [] result }
+    ensures gives { Gives (made_for_host local validity core_span leg_span (length out.old)) out.old out.new [] [] result }
+    ensures again { ComesAgain (made_for_host local validity core_span leg_span (length out.old)) (making local validity core_span leg_span).ledger result }
 {
     let made = new(Shard(local), validity, core_span, leg_span);
     match made.said {
@@ -27,7 +29,8 @@ pub fn make(local: u64, validity: u64, core_span: u64, leg_span: u64, out: &mut 
 
 // A ledger is read, and goes out. What is accepted is what the writer writes, so these bytes are its snapshot again.
 pub fn read(snapshot: &[u8], out: &mut [u8]) -> u64
-    ensures { Gives (read_for_host snapshot.now (length out.old)) out.old out.new [] [] result }
+    ensures gives { Gives (read_for_host snapshot.now (length out.old)) out.old out.new [] [] result }
+    ensures again { ComesAgain (read_for_host snapshot.now (length out.old)) (ledger_read snapshot.now) result }
 {
     let read = restored(snapshot);
     if let Err(refusal) = read.said {
@@ -42,7 +45,8 @@ pub fn read(snapshot: &[u8], out: &mut [u8]) -> u64
 
 // A ledger is read and pruned, and goes out with the prune's numbers and reports.
 pub fn prune(snapshot: &[u8], time: u64, out: &mut [u8], reports: &mut [u8]) -> u64
-    ensures { Gives (pruned_for_host snapshot.now time (length out.old) (length reports.old)) out.old out.new reports.old reports.new result }
+    ensures gives { Gives (pruned_for_host snapshot.now time (length out.old) (length reports.old)) out.old out.new reports.old reports.new result }
+    ensures again { ComesAgain (pruned_for_host snapshot.now time (length out.old) (length reports.old)) (ledger_pruned snapshot.now time) result }
 {
     let mut read = restored(snapshot);
     if let Err(refusal) = read.said {
