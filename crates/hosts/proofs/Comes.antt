@@ -25,7 +25,7 @@ use Rattle.rules.proofs.SnapshotWords.{snapshot_is_words}
 use Rattle.rules.specs.Plain.{Plain}
 use Rattle.word_bytes.specs.Bytes.{bytes_of, are_words, words_in}
 use Rattle.word_bytes.proofs.Bytes.{length_words, length_bytes, each_byte, words_again, bytes_again, words_fit}
-use Rattle.hosts.specs.Hosts.{bytes_refusal, restoring_bytes, words_read, ledger_bytes}
+use Rattle.hosts.specs.Hosts.{restoring_bytes, words_read, ledger_bytes}
 use Rattle.hosts.proofs.Sizes.{too_many}
 
 -- a refusal by 12, and one of no words
@@ -36,8 +36,9 @@ no_words : restoring (words_in []) ≡ turned_away
 unfolding restoring words_in snapshot_formed
 no_words = refl
 
-by_form : (n : ℕ) (o : Outcome) → n ≡ 12 → unless n not_made o ≡ turned_away
-by_form n o e = rw e refl
+by_form : (ws : List ℕ) → snapshot_refusal ws ≡ 12 → restoring ws ≡ turned_away
+unfolding restoring
+by_form ws e = rw e refl
 
 -- so many of them fit in a list for the longest snapshot
 pub words_few : (n : ℕ) → (words_read n ≤ 5895) × (8 * words_read n ≤ n)
@@ -49,33 +50,29 @@ words_few n = go (eqb (n % 8) 0) (leb (n / 8) 5895) refl refl
     go false c e f = (omega arith, omega arith)
 
 pub restored_same : (bytes : List ℕ) → restoring (words_in (take (8 * words_read (length bytes)) bytes)) ≡ restoring_bytes bytes
-unfolding restoring_bytes restoring
+unfolding restoring_bytes
 restored_same bytes = go (are_words bytes) (leb (length bytes / 8) 5895) refl refl
   where
-    back : (n : ℕ) → bytes_refusal bytes ≡ 12 → n ≡ 0 → restoring (words_in (take n bytes)) ≡ unless (bytes_refusal bytes) not_made (done [] (ledger_in (words_in bytes)))
-    back n e z = ap (λ k. restoring (words_in (take k bytes))) z ∙ no_words ∙ sym (by_form (bytes_refusal bytes) (done [] (ledger_in (words_in bytes))) e)
-
     go : (b c : Bool) → are_words bytes ≡ b → leb (length bytes / 8) 5895 ≡ c →
-        restoring (words_in (take (8 * cond (b && c) (length bytes / 8) 0) bytes)) ≡ unless (bytes_refusal bytes) not_made (done [] (ledger_in (words_in bytes)))
-    go true true e f =
-        let all : take (8 * (length bytes / 8)) bytes ≡ bytes = take_all (8 * (length bytes / 8)) bytes (omega (arith, eqb-true (length bytes % 8) 0 e)) in
-        let told : bytes_refusal bytes ≡ snapshot_refusal (words_in bytes) = rw e refl in
-        rw (all, told) refl
+        restoring (words_in (take (8 * cond (b && c) (length bytes / 8) 0) bytes)) ≡ unless (not b gives 12 then 0) not_made (restoring (words_in bytes))
+    go true true e f = ap (λ l. restoring (words_in l)) (take_all (8 * (length bytes / 8)) bytes (omega (arith, eqb-true (length bytes % 8) 0 e)))
     go true false e f =
-        let long = too_many (words_in bytes) (omega (arith, length_words bytes, leb-false (length bytes / 8) 5895 f)) in
-        back (8 * 0) (rw (e, long) refl) refl
-    go false c e f = back (8 * 0) (rw e refl) refl
+        no_words ∙ sym (by_form (words_in bytes) (too_many (words_in bytes) (omega (arith, length_words bytes, leb-false (length bytes / 8) 5895 f))))
+    go false c e f = no_words
 
 -- What is accepted is the writing of the ledger that it is read as.
-whole : (b : Bool) (n : ℕ) → not b gives 12 then n ≡ 0 → (b ≡ true) × (n ≡ 0)
-whole true n e = (refl, e)
-whole false n e = absurd (omega (arith, e))
+whole : (b : Bool) (o : Outcome) → (unless (not b gives 12 then 0) not_made o).refused ≡ 0 → (b ≡ true) × (unless (not b gives 12 then 0) not_made o ≡ o)
+whole true o e = (refl, refl)
+whole false o e = absurd (omega (arith, e))
+
+as_read : (ws : List ℕ) → (restoring ws).refused ≡ 0 → (snapshot_refusal ws ≡ 0) × ((restoring ws).ledger ≡ ledger_in ws)
+unfolding restoring
+as_read ws e =
+    let read : Outcome = done [] (ledger_in ws) in
+    let none : snapshot_refusal ws ≡ 0 = sym (unless-refused (snapshot_refusal ws) not_made read refl) ∙ e in
+    (none, ap (λ (o : Outcome). o.ledger) (unless-none (snapshot_refusal ws) not_made read none))
 
 module _ (bytes : List ℕ) (fits : (i : ℕ) → Fits w8 (get_or bytes i 0)) (e : (restoring_bytes bytes).refused ≡ 0) where
-  none : bytes_refusal bytes ≡ 0
-  unfolding restoring_bytes
-  none = sym (unless-refused (bytes_refusal bytes) not_made (done [] (ledger_in (words_in bytes))) refl) ∙ e
-
   small : Every (λ b. b < 256) bytes
   small = each_byte bytes fits
 
@@ -85,14 +82,16 @@ module _ (bytes : List ℕ) (fits : (i : ℕ) → Fits w8 (get_or bytes i 0)) (e
   pub accepted : ledger_bytes (restoring_bytes bytes).ledger ≡ bytes
   unfolding restoring_bytes
   accepted =
-      let w = whole (are_words bytes) (snapshot_refusal (words_in bytes)) none in
-      ap (λ (o : Outcome). ledger_bytes o.ledger) (unless-none (bytes_refusal bytes) not_made (done [] (ledger_in (words_in bytes))) none)
-      ∙ ap bytes_of (read_written (words_in bytes) are_word w.1).1
+      let w = whole (are_words bytes) (restoring (words_in bytes)) e in
+      let r = as_read (words_in bytes) (ap (λ (o : Outcome). o.refused) (sym w.1) ∙ e) in
+      ap (λ (o : Outcome). ledger_bytes o.ledger) w.1
+      ∙ ap ledger_bytes r.1
+      ∙ ap bytes_of (read_written (words_in bytes) are_word r.0).1
       ∙ bytes_again bytes (eqb-true (length bytes % 8) 0 w.0) small
 
 -- The writing of a ledger that calls reach comes in as this ledger.
 pub comes_again : (p : Plain) → Good p → restoring_bytes (ledger_bytes p) ≡ done [] p
-unfolding restoring_bytes
+unfolding restoring_bytes restoring
 comes_again p g =
     let ws : List ℕ = snapshot_words p in
     let w = written_read p g in

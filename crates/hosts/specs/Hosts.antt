@@ -7,7 +7,7 @@ use Rattle.rules.specs.Plain.{Plain}
 use Rattle.rules.specs.Widths.{report_room}
 use Rattle.rules.specs.Outcome.{Outcome, done, unless, if_done, ◌gives◌then◌, too_short}
 use Rattle.rules.specs.Calls.{not_made, making, step, prune}
-use Rattle.rules.specs.Snapshot.{snapshot_words, ledger_in, snapshot_refusal}
+use Rattle.rules.specs.Snapshot.{snapshot_words, restoring}
 use Rattle.types.specs.declared.refusal.Refusal.{Refusal}
 use Rattle.types.specs.Refusals.{refused_in}
 use Rattle.ledger.specs.declared.Ledger.{Ledger}
@@ -18,12 +18,9 @@ use Rattle.ledger.specs.Meets.{written}
 abbrev pub snapshot_room : ℕ
 snapshot_room = 5895
 
--- A ledger that comes in, 12 first: bytes that are no whole words are no snapshot.
-abbrev pub bytes_refusal : List ℕ → ℕ
-bytes_refusal bytes = not (are_words bytes) gives 12 then snapshot_refusal (words_in bytes)
-
+-- A ledger that comes in. 12, ahead of what the words are refused by: bytes that are no whole words are no snapshot.
 unfoldable pub restoring_bytes : List ℕ → Outcome
-restoring_bytes bytes = unless (bytes_refusal bytes) not_made (done [] (ledger_in (words_in bytes)))
+restoring_bytes bytes = unless (not (are_words bytes) gives 12 then 0) not_made (restoring (words_in bytes))
 
 -- how many words are read of so many bytes: none where they are no whole words or more than any snapshot's
 abbrev pub words_read : ℕ → ℕ
