@@ -119,7 +119,15 @@ module _ (ws : List ℕ) where
   unfoldable pub admission_placed : Bool
   admission_placed = all_of (all is_shard core_in ∷ all is_shard froms ∷ all is_shard (drop destinations_at ws) ∷ [])
 
--- the other way: the words of terms, with decomposed before the arrays
+-- the other way: the words of edges, and of terms, with decomposed before the lists
+abbrev pub edge_words : List Edge → List ℕ
+edge_words gs =
+    map (λ (g : Edge). g.id) gs
+    ++ (map (λ (g : Edge). g.from) gs
+    ++ (map (λ (g : Edge). g.kind) gs
+    ++ (map (λ (g : Edge). length g.to) gs
+    ++ concat_map (λ (g : Edge). g.to) gs)))
+
 abbrev pub admission_words : ℕ → Terms → List ℕ
 admission_words is_decomposed t =
     length t.routes
@@ -131,13 +139,7 @@ admission_words is_decomposed t =
     ∷ t.anchor
     ∷ t.charge
     ∷ is_decomposed
-    ∷ (t.routes
-    ++ (t.core_shards
-    ++ (map (λ (g : Edge). g.id) t.edges
-    ++ (map (λ (g : Edge). g.from) t.edges
-    ++ (map (λ (g : Edge). g.kind) t.edges
-    ++ (map (λ (g : Edge). length g.to) t.edges
-    ++ concat_map (λ (g : Edge). g.to) t.edges))))))))
+    ∷ (t.routes ++ (t.core_shards ++ edge_words t.edges))))
 
 -- Abandonment record: n, shard; n reach sizes; n groups of transaction, at, end, anchor, charge; routes joined.
 module _ (ws : List ℕ) where

@@ -14,6 +14,7 @@ use Rattle.lists.proofs.Listing.{length-words}
 use Rattle.lists.proofs.Joined.{sizes_again, joined_again}
 use Rattle.rules.specs.Plain.{part_number}
 use Rattle.rules.specs.Outcome.{yes_no}
+use Rattle.rules.specs.Words.{edge_words}
 use Rattle.rules.specs.Snapshot.{absence_words, decomposed_word, history_words, entry_words}
 use Rattle.rules.proofs.Written.{id_of, to_of}
 use Rattle.rules.proofs.SnapshotAdmission.{Unzipped, unzip}
@@ -22,7 +23,7 @@ use Rattle.entry.specs.declared.Part.TheVariants.{Whole, Leg, Core, Remainder}
 use Rattle.entry.specs.declared.Entry.{Entry}
 use Rattle.entry.specs.Entry.{plain_part, plain_absence, absences_of, edges_of, plain_entry}
 use Rattle.entry.proofs.Shape.{fits_of}
-use Rattle.snapshots.specs.Put.{edge_words, edges_size, entry_size}
+use Rattle.snapshots.specs.Put.{edges_size, entry_size}
 
 module _ (e : Entry) where
   pub routes-length : length (take e.routes_len e.routes) ≡ e.routes_len

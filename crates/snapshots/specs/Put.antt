@@ -14,7 +14,7 @@ pub record Put (row before : List ℕ) (at : ℕ) (after : List ℕ) (to : ℕ) 
   pub end : to ≡ at + length row
   pub size : length after ≡ length before
 
--- what comes ahead of an entry's lists, and the words of its edges
+-- what comes ahead of an entry's lists
 abbrev pub head_words : plain.Entry → List ℕ
 head_words e =
     length e.terms.routes
@@ -22,14 +22,6 @@ head_words e =
     ∷ length e.terms.edges
     ∷ (transaction_words e.terms.transaction
     ++ (e.terms.at ∷ e.terms.end ∷ e.terms.anchor ∷ e.terms.charge ∷ decomposed_word e.part ∷ []))
-
-abbrev pub edge_words : List Edge → List ℕ
-edge_words gs =
-    map (λ (g : Edge). g.id) gs
-    ++ (map (λ (g : Edge). g.from) gs
-    ++ (map (λ (g : Edge). g.kind) gs
-    ++ (map (λ (g : Edge). length g.to) gs
-    ++ concat_map (λ (g : Edge). g.to) gs)))
 
 -- how many words an entry's edges, its history and all of it have
 abbrev pub edges_size : Entry → ℕ

@@ -1,9 +1,10 @@
 // Words put down one row behind the other: rows of words, of bytes, and an entry's.
 ghost use Rattle.std.specs.Prelude.{◌≡◌, ◌≤◌, ◌+◌, ◌*◌, true, leb, length, take};
 ghost use Rattle.lists.specs.Lists.{all, total, self as itself, concat_map};
+ghost use Rattle.rules.specs.Words.{edge_words};
 ghost use Rattle.rules.specs.Snapshot.{absence_words, history_words, entry_words};
 ghost use Rattle.entry.specs.Entry.{plain_entry, absences_of, edges_of};
-ghost use Rattle.snapshots.specs.Put.{Put, head_words, edge_words, edges_size, history_size, entry_size};
+ghost use Rattle.snapshots.specs.Put.{Put, head_words, edges_size, history_size, entry_size};
 
 use entry::Entry;
 

@@ -1,0 +1,5 @@
+pub mod Sizes
+pub mod Comes
+pub mod Goes
+pub mod Reported
+pub mod Worked

@@ -1,0 +1,32 @@
+// A ledger that comes in as the bytes of its snapshot.
+ghost use Rattle.std.specs.Prelude.{◌≡◌, []};
+ghost use Rattle.ledger.specs.Meets.{Meets};
+ghost use Rattle.hosts.specs.Hosts.{restoring_bytes, words_read};
+
+use ledger::Done;
+use snapshots::restore::restore;
+use word_bytes::read_words;
+
+// The longest snapshot has so many words: 7, the lengths of 48 entries, 119 words for each of these, 4 for each of 32 departures.
+pub const SNAPSHOT_ROOM: usize = 5895;
+
+// How many words are read of so many bytes. None where they are no whole words or too many, and no words are no snapshot either.
+fn words_read(len: usize) -> usize
+    ensures { result ≡ words_read len }
+{
+    let n = len / 8;
+    if len % 8 == 0 && n <= SNAPSHOT_ROOM {
+        n
+    } else {
+        0
+    }
+}
+
+pub fn restored(snapshot: &[u8]) -> Done
+    ensures { Meets (restoring_bytes snapshot.now) [] [] result }
+{
+    let mut words = [0; SNAPSHOT_ROOM];
+    let n = words_read(snapshot.len());
+    read_words(&snapshot[..8 * n], &mut words[..n]);
+    restore(&words[..n])
+}
