@@ -9,17 +9,22 @@ use crate::cases::Case;
 
 const PATIENCE: Duration = Duration::from_secs(60);
 
+/// The Rust, given these arguments, and the port.
+fn sides(programs: &[PathBuf; 2], arguments: &'static [&'static str]) -> [Port; 2] {
+    [(0, arguments), (1, &[])].map(|(side, arguments)| Port {
+        program: programs[side].clone(),
+        arguments,
+        patience: PATIENCE,
+    })
+}
+
 /// Each block of each case, made twice with a dump after each. The Rust is given these arguments.
 pub fn check<'a>(
     programs: &[PathBuf; 2],
     arguments: &'static [&'static str],
     cases: impl Iterator<Item = &'a Case>,
 ) -> Result<(), String> {
-    let [rust, port] = [(0, arguments), (1, &[][..])].map(|(side, arguments)| Port {
-        program: programs[side].clone(),
-        arguments,
-        patience: PATIENCE,
-    });
+    let [rust, port] = sides(programs, arguments);
     for case in cases {
         for block in case.blocks() {
             let script = format!("{}{block}dump\n{block}dump\n", case.setup);
@@ -49,6 +54,21 @@ fn restored(setup: &str, block: &str, answers: &[u8]) -> bool {
         words.filter(|(place, _)| *place != COUNT)
     };
     answers.len() == second + 1 && held(first).eq(held(second))
+}
+
+/// What is timed of either case leads either program to the same ledger, from none: the dumps after it are equal.
+pub fn same_ledger(programs: &[PathBuf; 2], one: &Case, other: &Case) -> Result<(), String> {
+    for program in sides(programs, &[]) {
+        let held = |case: &Case| -> Result<Option<String>, String> {
+            let answers = program.run(format!("{}dump\n", case.blocks()[0]).as_bytes())?;
+            let text = String::from_utf8_lossy(&answers);
+            Ok(text.lines().last().map(String::from))
+        };
+        if held(one)? != held(other)? {
+            return Err(format!("another ledger is reached by: {}", one.name));
+        }
+    }
+    Ok(())
 }
 
 /// All blocks of these cases, and a dump: a script that must have every call of the format.

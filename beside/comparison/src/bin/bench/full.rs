@@ -1,7 +1,4 @@
-//! The calls that go over all of a full ledger: prune, closes, the long lists and snapshots.
-
-use comparison::image::snapshot_of;
-use reference::Runner;
+//! The calls that go over all of a full ledger: prune, closes and the long lists.
 
 use crate::cases::{Case, Swap};
 use crate::ledgers::{
@@ -9,7 +6,7 @@ use crate::ledgers::{
 };
 
 pub fn cases() -> Vec<Case> {
-    [prunes(), closes(), lists(), snapshots()]
+    [prunes(), closes(), lists()]
         .into_iter()
         .flatten()
         .map(Case::pictured)
@@ -120,22 +117,5 @@ fn lists() -> Vec<Case> {
             &together,
             "counterparts 25 32 lent 40",
         ),
-    ]
-}
-
-/// A snapshot of legs with eight records each and of 32 departures. Restoring it leaves the ledger as it was.
-fn snapshots() -> Vec<Case> {
-    let legs = ledger(|tx| Entry::leg(tx, 8));
-    let setup = [legs, departures(4, |_| false)].concat();
-    let mut runner = Runner::default();
-    for call in &setup {
-        runner.take(call.as_bytes(), &mut Vec::new());
-    }
-    let words = snapshot_of(&runner.book);
-    let write = format!("snapshot lent {}", words.len());
-    let row = |name, call| Case::repeated(name, FULL, &setup, call);
-    vec![
-        row("snapshot, 48 legs of 8 records", write),
-        row("restore, 48 legs of 8 records", line("restore", &words)),
     ]
 }

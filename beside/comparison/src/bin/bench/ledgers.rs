@@ -180,13 +180,22 @@ pub fn settlements(tx: u64, edges: u64) -> Vec<String> {
 pub fn departures(each: u64, open: impl Fn(u64) -> bool) -> Vec<String> {
     let terminal = |group: u64, deep: u64| {
         let stamped = u64::from(!(open(group) && deep + 1 == each));
-        line(
-            "record_terminal",
-            &[(24 + group) << deep, 14 - deep, stamped, 30],
-        )
+        let words = [departing(group, deep), 14 - deep, stamped, 30];
+        line("record_terminal", &words)
     };
     (0..8)
         .flat_map(|group| (0..each).map(move |deep| (group, deep)))
         .map(|(group, deep)| terminal(group, deep))
         .collect()
+}
+
+/// A stamp for the last of the departures over each route, where that is open.
+pub fn stamps(each: u64) -> Vec<String> {
+    let stamp =
+        |deep| (0..8).map(move |group| line("stamp_terminal", &[departing(group, deep), 30]));
+    each.checked_sub(1).into_iter().flat_map(stamp).collect()
+}
+
+fn departing(group: u64, deep: u64) -> u64 {
+    (24 + group) << deep
 }

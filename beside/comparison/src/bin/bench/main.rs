@@ -9,6 +9,8 @@ mod ledgers;
 mod levels;
 mod page;
 mod picture;
+mod rows;
+mod snapshots;
 mod stack;
 mod timing;
 mod work;
@@ -21,9 +23,10 @@ use std::{env, fs, process};
 use bundles::Bundle;
 use cases::Case;
 use layout::Layouts;
-use ledgers::FULL;
 use page::{Page, Row, grouped};
 use picture::Group;
+use rows::Rows;
+use snapshots::Snapshot;
 use timing::{Cost, Program};
 use work::Block;
 
@@ -32,12 +35,13 @@ type Failing<T> = Result<T, Box<dyn Error>>;
 const USAGE: &str = "usage: bench REFERENCE PORT ROOT [ROWS]: the two programs to time, and the repository's folder; with ROWS only the rows \
                      whose names have that in them are timed, and nothing is written";
 /// The titles of the tables in the picture.
-const PICTURED: [&str; 5] = [
+const PICTURED: [&str; 6] = [
     "Changing calls, 48 entries",
     "Readings, 48 entries",
     "A full ledger gone over",
     "A block's work",
     "Bundles",
+    "Snapshots, 48 entries",
 ];
 /// The Rust without the copy of the ledger from which a refused bundle is undone.
 const NO_COPY: [&str; 1] = ["--no-copy"];
@@ -97,43 +101,22 @@ impl<'a> Bench<'a> {
 
     fn run(mut self, root: &Path, rows: Option<&str>) -> Failing<()> {
         let layouts = Layouts::read(&root.join("crates"))?;
-        let asked = |case: &Case| rows.is_none_or(|rows| case.name.contains(rows));
-        let blocks: Vec<Block> = work::blocks()
-            .into_iter()
-            .filter(|block| asked(&block.case))
-            .collect();
-        let groups = [
-            ("Changing calls", levels::changing()),
-            ("Readings", levels::readings()),
-            ("A full ledger gone over", full::cases()),
-        ]
-        .map(|(title, cases)| (title, cases.into_iter().filter(asked).collect::<Vec<_>>()));
-        let cases = || groups.iter().flat_map(|(_, cases)| cases);
-        let bundles: Vec<Bundle> = bundles::rows()
-            .into_iter()
-            .filter(|bundle| asked(&bundle.case))
-            .collect();
-        let of_bundles = || bundles.iter().map(|bundle| &bundle.case);
-        let of_blocks = blocks.iter().map(|block| &block.case);
-        let all = cases().chain(of_blocks).chain(of_bundles());
-        agreement::check(&self.paths, &[], all)?;
-        let undone = bundles.iter().filter(|bundle| !bundle.refused);
-        agreement::check(&self.paths, &NO_COPY, undone.map(|bundle| &bundle.case))?;
+        let asked = Rows::asked(rows);
+        asked.check(&self.paths)?;
         let bytes = layouts.of("Ledger")?.size;
         self.hand_over = timing::hand_over(bytes);
         self.page.introduce(bytes, self.hand_over);
         let mut shown = Vec::new();
-        for (title, cases) in &groups {
+        for (title, cases) in &asked.groups {
             shown.push(self.calls(title, cases)?);
         }
-        shown.push(self.blocks(&blocks)?);
-        shown.push(self.bundles(&bundles)?);
+        shown.push(self.blocks(&asked.blocks)?);
+        shown.push(self.bundles(&asked.bundles)?);
+        shown.push(self.snapshots(&asked.snapshots)?);
         if rows.is_some() {
             return Ok(());
         }
-        let full = cases().filter(|case| case.entries == FULL);
-        let all = agreement::all_calls(full.chain(of_bundles()))?;
-        self.sizes(&layouts, &all)?;
+        self.sizes(&layouts, &asked.script()?)?;
         self.write(root, &shown)
     }
 
@@ -185,30 +168,40 @@ impl<'a> Bench<'a> {
             };
             let [copying, port] = &self.programs;
             let rust = if bundle.refused { copying } else { &self.bare };
-            let row = Row {
-                name: case.name.to_string(),
-                entries: case.entries,
-                rust: cost(rust)?,
-                port: cost(port)?,
-            };
+            let costs = [cost(rust)?, cost(port)?];
             let whole = bundle.items.is_none() && !bundle.refused;
             let copying = if whole { Some(cost(copying)?) } else { None };
-            self.page.bundle(&row, copying, self.hand_over);
-            shown.extend(Some(row).filter(|row| case.pictured && row.is_clear()));
+            shown.extend(self.longer(case, costs, copying));
+        }
+        Ok(shown)
+    }
+
+    /// Snapshots; beside a restore the Rust makes the calls that lead to the ledger, and behind it stands what the comparison's reader takes.
+    fn snapshots(&mut self, snapshots: &[Snapshot]) -> Failing<Vec<Row>> {
+        self.page.snapshots();
+        let mut shown = Vec::new();
+        for Snapshot { case, calls } in snapshots {
+            let [rust, port] = &self.programs;
+            let own = rust.cost(case)?;
+            let calls = calls.as_ref().map(|calls| rust.cost(calls)).transpose()?;
+            let costs = [calls.unwrap_or(own), port.cost(case)?];
+            shown.extend(self.longer(case, costs, calls.map(|_| own)));
         }
         Ok(shown)
     }
 
     /// Put a row on the page; it is handed back for the picture if its figures are clear.
-    fn row(&mut self, name: String, entries: u64, [rust, port]: [Cost; 2]) -> Option<Row> {
-        let row = Row {
-            name,
-            entries,
-            rust,
-            port,
-        };
+    fn row(&mut self, name: String, entries: u64, costs: [Cost; 2]) -> Option<Row> {
+        let row = Row::new(name, entries, costs);
         self.page.row(&row, self.hand_over);
         row.is_clear().then_some(row)
+    }
+
+    /// Put a row on the page with a figure more; it is handed back if the picture shows it.
+    fn longer(&mut self, case: &Case, costs: [Cost; 2], last: Option<Cost>) -> Option<Row> {
+        let row = Row::new(case.name.to_string(), case.entries, costs);
+        self.page.longer(&row, last, self.hand_over);
+        (case.pictured && row.is_clear()).then_some(row)
     }
 
     fn sizes(&mut self, layouts: &Layouts, all_calls: &str) -> Failing<()> {
