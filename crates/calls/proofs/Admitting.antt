@@ -21,7 +21,7 @@ use Rattle.rules.specs.Entries.{admitted}
 use Rattle.rules.specs.Index.{pair_key, pairs_of, index}
 use Rattle.rules.specs.Outcome.{Outcome, done, ◌gives◌then◌, yes_no}
 use Rattle.rules.specs.Calls.{admission, no_room_for, admission_refusal, after_admission}
-use Rattle.rules.specs.Good.{Holds, Good}
+use Rattle.rules.specs.Good.{Holds}
 use Rattle.rules.proofs.Kept.{step-good}
 use Rattle.rules.proofs.Named.{IsOfWord, index-size, good-words}
 use Rattle.rules.proofs.Reindex.{index_of-include}

@@ -1,14 +1,14 @@
 -- Lists by transaction: the entry that a loop over the roster meets, what is left behind it, and what the lists' tests are of each entry.
 -- Assumes nothing.
-use Prim.Native.Nat.{ℕ, suc, ◌+◌, ◌-◌, ◌*◌, ◌≤◌, ◌<◌}
+use Prim.Native.Nat.{ℕ, suc, ◌+◌, ◌-◌, ◌*◌, ◌≤◌}
 use mathlib.Core.Path.{◌≡◌, refl, sym, ap, ◌∙◌}
 use mathlib.Core.Bool.{Bool, true, false, not, ◌&&◌, ◌||◌, false≢true}
 use mathlib.Core.List.{List, [], ◌∷◌, ◌++◌, Memᴰ}
 use native.Mathlib.Omega.{arith}
 use borrow.Author.Tests.{eq-eqb, ne_eqb, eqb-true}
 use lib.Dec.{eqb}
-use lib.ListN.{length, take, drop, get_or, length-map, length-append}
-use lib.Seq.{length-take-le, get_or-take}
+use lib.ListN.{length, take, length-map, length-append}
+use lib.Seq.{length-take-le}
 use Rattle.lists.specs.Lists.{cons_if, keep, concat_map, has, without, Above, Ascending, self}
 use Rattle.lists.proofs.Tests.{and_both, and_left, and_right, same_test}
 use Rattle.lists.proofs.Keep.{keep_same, any-has, any_more, length-keep}
@@ -25,9 +25,6 @@ use Rattle.entry.specs.declared.Entry.{Entry}
 use Rattle.entry.specs.Entry.{plain_entry}
 use Rattle.entry.proofs.Shape.{fits_of}
 use Rattle.entry.proofs.Edges.{starting}
-use Rattle.ledger.specs.declared.Ledger.{Ledger}
-use Rattle.ledger.specs.Contents.{contents, entries_of, Held}
-use Rattle.ledger.proofs.Places.{entry_at}
 use Rattle.entry_lists.specs.Tests.{holds_id, is_asking, asks_of}
 
 -- An entry whose edges from local hold an id is in the index under the id's key.

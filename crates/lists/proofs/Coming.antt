@@ -1,9 +1,9 @@
 -- A list read from parts one after the other, each asked whether it is sound and whether it comes behind those before it: what the parts still
 -- to come tell of all of them.
 -- Assumes nothing.
-use Prim.Native.Nat.{ℕ, zero, suc, ◌+◌, ◌<◌, ◌≤◌}
+use Prim.Native.Nat.{ℕ, suc, ◌+◌, ◌<◌}
 use mathlib.Core.Path.{◌≡◌, refl, sym, ap, ◌∙◌}
-use mathlib.Core.Bool.{Bool, true, false, cond, ◌&&◌, ◌||◌, true≢false}
+use mathlib.Core.Bool.{Bool, true, false, cond, ◌&&◌, true≢false}
 use mathlib.Core.List.{List, [], ◌∷◌, ◌++◌, map}
 use native.Mathlib.Omega.{arith}
 use lib.Dec.{eqb, ltb}
@@ -12,7 +12,7 @@ use borrow.Author.Tests.{ltb-true, eqb-true, eqb-false, ne_eqb}
 use Rattle.lists.specs.Lists.{all, Above, Ascending, has, include, above_all, ascending}
 use Rattle.lists.specs.Arrays.{rank}
 use Rattle.lists.proofs.Tests.{and_left, and_right, and_both, and_false}
-use Rattle.lists.proofs.Order.{include_past, ascending_test, test_ascending}
+use Rattle.lists.proofs.Order.{include_past, test_ascending}
 use Rattle.lists.proofs.Held.{put_behind, all_put}
 
 -- as many are counted from the front as there are, just where each passes
@@ -53,11 +53,10 @@ module _ {A : Type 0} (key : A → ℕ) where
 
   pub rises_with : (x : A) (l : List A) → Ascending key l → before x l ≡ true → Ascending key (l ++ x ∷ [])
   rises_with x [] a h = (tt, tt)
-  rises_with x (y ∷ l) a h =
-      (
-        above_behind (key y) x l a.0 (ltb-true (key y) (key x) (and_left (ltb (key y) (key x)) (before x l) h)),
-        rises_with x l a.1 (and_right (ltb (key y) (key x)) (before x l) h)
-      )
+  rises_with x (y ∷ l) a h = (
+    above_behind (key y) x l a.0 (ltb-true (key y) (key x) (and_left (ltb (key y) (key x)) (before x l) h)),
+    rises_with x l a.1 (and_right (ltb (key y) (key x)) (before x l) h),
+  )
 
   -- what rises with more behind x has all before x
   above_all-past : (k : ℕ) (x : A) (l m : List A) → above_all key k (l ++ x ∷ m) ≡ true → ltb k (key x) ≡ true

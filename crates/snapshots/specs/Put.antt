@@ -1,7 +1,7 @@
 -- Words put down at a place, and what an entry's are.
 use Rattle.std.specs.Prelude.{ℕ, ◌+◌, ◌*◌, ◌≡◌, List, [], ◌∷◌, ◌++◌, map, length, take}
 use Rattle.std.proofs.lemmas.List.Edits.{sets}
-use Rattle.lists.specs.Lists.{total, self, concat_map}
+use Rattle.lists.specs.Lists.{total, self}
 use Rattle.rules.specs.Plain as plain
 use Rattle.rules.specs.Plain.{Edge, Plain}
 use Rattle.rules.specs.Words.{transaction_words}

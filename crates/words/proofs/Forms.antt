@@ -1,7 +1,7 @@
 -- What the tests of an admission's form say, row by row: which parts can be read, how long they are, and the whole from the rows.
 -- Assumes nothing.
 use Prim.Native.Nat.{ℕ, suc, ◌^◌, ◌+◌, ◌*◌, ◌≤◌, ◌<◌}
-use mathlib.Core.Path.{◌≡◌, refl, sym, ap, ◌∙◌}
+use mathlib.Core.Path.{◌≡◌, sym, ap, ◌∙◌}
 use mathlib.Core.Bool.{Bool, true, false, ◌&&◌}
 use mathlib.Core.List.{List, [], ◌∷◌, ◌++◌}
 use native.Mathlib.Omega.{arith}

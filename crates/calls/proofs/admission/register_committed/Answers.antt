@@ -1,12 +1,9 @@
 -- The table from the top, then what is owed is skipped, and what is not takes the first slot that is free.
 use Rattle.std.specs.Prelude.{Err}
 use Rattle.std.proofs.Common.{ℕ, ◌≡◌, ap, sym, ◌∙◌, List, arith, rules, Option}
-use Rattle.std.proofs.Math.Seq.{length-take-le}
-use Rattle.lists.specs.Arrays.{place, rank}
-use Rattle.lists.proofs.Loops.{rank_le}
+use Rattle.lists.specs.Arrays.{place}
 use Rattle.rules.specs.Words.{admission_terms}
-use Rattle.store.specs.Roster.{keys_of, is, below}
-use Rattle.store.proofs.Rosters.{free_slot_lem}
+use Rattle.store.specs.Roster.{is}
 use Rattle.words.proofs.Forms.{all_words_lem}
 use Rattle.calls.proofs.Admitting.{turned_away, skipped, full, enters, admits}
 use Rattle.calls.proofs.admission.register_committed.Goals as goal
