@@ -1,3 +1,4 @@
+-- The bytes written are those of the words one after the other, in front of what stays beyond them.
 use Rattle.std.proofs.Common.{◌*◌, ◌++◌, length, drop, ap, ◌∙◌}
 use Rattle.word_bytes.proofs.Bytes.{flat}
 use Rattle.word_bytes.proofs.put_words.Goals as goal

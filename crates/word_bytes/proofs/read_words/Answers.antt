@@ -1,3 +1,4 @@
+-- Every word is read from its own eight bytes, so the list of words is what the bytes are.
 use Rattle.std.proofs.Common.{arith}
 use Rattle.word_bytes.proofs.Bytes.{all_read}
 use Rattle.word_bytes.proofs.read_words.Goals as goal
