@@ -4,22 +4,15 @@ use Prim.Native.Nat.{ℕ, zero, suc, ◌*◌, ◌≤◌, ◌<◌}
 use mathlib.Core.Path.{◌≡◌, refl, sym, ap, ◌∙◌, subst}
 use mathlib.Core.List.{List, [], ◌∷◌, ◌++◌}
 use native.Mathlib.Omega.{arith}
-use lib.ListN.{length, take, drop}
-use lib.Seq.{take_at}
+use lib.ListN.{length, drop}
 use borrow.Author.Tests.{lt-ltb, le-ltb}
-use Rattle.std.specs.Prelude.{Result, Ok, Err}
-use Rattle.std.specs.Result.{result_unwrap_or}
-use Rattle.lists.proofs.Sets.{concat_map-single}
 use Rattle.rules.specs.Plain.{Plain}
-use Rattle.rules.specs.Readings.{read, take_snapshot}
 use Rattle.rules.specs.Good.{Good}
 use Rattle.rules.specs.Snapshot.{snapshot_words}
-use Rattle.rules.proofs.SnapshotWords.{snapshot-few}
 use Rattle.types.specs.declared.refusal.Refusal.{Refusal}
 use Rattle.types.specs.declared.refusal.Refusal.TheVariants.{NoLocal, NoSpan, NoTime, NoShard, Malformed, EntriesFull, AbsencesFull, DeparturesFull, ListShort, UnknownKind, NoBundle, NoSnapshot, NeverWritten}
 use Rattle.types.specs.Refusals.{refusal_number}
 use Rattle.ledger.specs.Meets.{written}
-use Rattle.readings.specs.Reads.{Reads, answer_in}
 use Rattle.word_bytes.specs.Bytes.{bytes_of}
 use Rattle.word_bytes.proofs.Bytes.{length_bytes}
 use Rattle.hosts.proofs.Comes.{comes_again}
@@ -74,28 +67,6 @@ module _ (p : Plain) (told : List ℕ) (a b : ℕ) where
 -- words whose bytes are put to the front
 pub put_written : (ws put out : List ℕ) → put ≡ ws → bytes_of put ++ drop (8 * length put) out ≡ written (bytes_of ws) out
 put_written ws put out e = rw e (ap (λ n. bytes_of ws ++ drop n out) (sym (length_bytes ws)))
-
--- what a writing of a ledger in use gives where there is room for the longest
-pub record Wrote (ws after : List ℕ) (r : Result ℕ Refusal) : Type 0 where
-  pub few : length ws ≤ 5895
-  pub count : result_unwrap_or r 0 ≡ length ws
-  pub front : take (result_unwrap_or r 0) after ≡ ws
-
-answered : (r : Result ℕ Refusal) → result_unwrap_or r 0 ≡ answer_in r
-answered (Ok n) = refl
-answered (Err e) = refl
-
-pub wrote_all : (p : Plain) → Good p → (lent after : List ℕ) (r : Result ℕ Refusal) → length lent ≡ 5895 →
-    Reads (read (take_snapshot (length lent)) p) lent after r → Wrote (snapshot_words p) after r
-wrote_all p g lent after r size m =
-    let few = snapshot-few p g in
-    let reads = rw (concat_map-single (snapshot_words p), le-ltb (length lent) (length (snapshot_words p)) (omega (arith, few, size))) at m in
-    let count : result_unwrap_or r 0 ≡ length (snapshot_words p) = answered r ∙ reads.answer in
-    record {
-      few = few;
-      count = count;
-      front = ap (take (result_unwrap_or r 0)) reads.wrote ∙ take_at (snapshot_words p) _ (result_unwrap_or r 0) (sym count);
-    }
 
 -- what goes out of one ledger goes out of the same
 pub as_handed : (n : ℕ) (p q : Plain) (told list : List ℕ) (a b : ℕ) (out after reports reports_after : List ℕ) (r : ℕ) → n ≡ 0 → q ≡ p → list ≡ told →

@@ -5,10 +5,8 @@ ghost use Rattle.hosts.specs.Hosts.{restoring_bytes, words_read};
 
 use ledger::Done;
 use snapshots::restore::restore;
+use snapshots::write::SNAPSHOT_ROOM;
 use word_bytes::read_words;
-
-// The longest snapshot has so many words: 7, the lengths of 48 entries, 119 words for each of these, 4 for each of 32 departures.
-pub const SNAPSHOT_ROOM: usize = 5895;
 
 // How many words are read of so many bytes. None where they are no whole words or too many, and no words are no snapshot either.
 fn words_read(len: usize) -> usize

@@ -5,9 +5,8 @@ ghost use Rattle.rules.specs.Calls.{after_prune};
 ghost use Rattle.ledger.specs.Contents.{contents, Held};
 ghost use Rattle.hosts.specs.Hosts.{handing, Gives, Tells};
 
-use crate::incoming::SNAPSHOT_ROOM;
 use ledger::Ledger;
-use snapshots::write::snapshot;
+use snapshots::write::{SNAPSHOT_ROOM, whole_snapshot};
 use sweeps::prune::prune;
 use types::Time;
 use types::refusal::Refusal;
@@ -24,7 +23,7 @@ pub fn hand_out(ledger: &Ledger, told: &[u64], out: &mut [u8], reports: &mut [u8
     ensures { Gives (handing 0 (contents ledger.now) told.now (length out.old) (length reports.old)) out.old out.new reports.old reports.new result }
 {
     let mut words = [0; SNAPSHOT_ROOM];
-    let n = snapshot(ledger, &mut words).unwrap_or(0) as usize; // never refused: there is room for the longest
+    let n = whole_snapshot(ledger, &mut words);
     if out.len() < 8 * n || reports.len() < 8 * told.len() {
         return Refusal::ListShort.number();
     }

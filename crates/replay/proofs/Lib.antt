@@ -1,3 +1,2 @@
 pub mod Replied
 pub mod Names
-pub mod Dumped

@@ -1,27 +1,18 @@
 // The whole ledger, each of its words behind a space: those of its snapshot without the entries' lengths, and the index.
 ghost use Rattle.ledger.specs.Contents.{Held};
-ghost use Rattle.replay.specs.Dump.{Taken};
 
 use ledger::Ledger;
 use script::Writer;
-use snapshots::write::snapshot;
+use snapshots::write::{SNAPSHOT_ROOM, whole_snapshot};
 use std::io::Write;
 use store::issuers::Issuers;
 use types::Transaction;
 
-// Takes the snapshot, which is never refused, since 5,895 words hold every one, and answers how many words it has.
-fn put_snapshot(ledger: &Ledger, words: &mut [u64; 5895]) -> usize
-    requires { Held ledger.now }
-    ensures { Taken ledger.now words.new result }
-{
-    snapshot(ledger, words).unwrap_or(0) as usize
-}
-
 pub fn put_ledger<W: Write>(writer: &mut Writer<W>, ledger: &Ledger)
     requires { Held ledger.now }
 {
-    let mut words = [0; 5895];
-    let end = put_snapshot(ledger, &mut words);
+    let mut words = [0; SNAPSHOT_ROOM];
+    let end = whole_snapshot(ledger, &mut words);
     let entries_at = 7 + ledger.roster.len;
     writer.put_words(&words[..7]);
     writer.put_word(ledger.issuers.len as u64);

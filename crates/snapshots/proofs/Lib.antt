@@ -8,3 +8,4 @@ pub mod Restoring
 pub mod Putting
 pub mod Fields
 pub mod Writing
+pub mod Whole

@@ -9,11 +9,15 @@ ghost use Rattle.store.specs.Stored.{plain_departure};
 ghost use Rattle.ledger.specs.Contents.{Held, contents};
 ghost use Rattle.readings.specs.Reads.{Reads};
 ghost use Rattle.snapshots.specs.Put.{Put, entry_lengths, frame_words};
+ghost use Rattle.snapshots.specs.Whole.{Whole};
 
 use crate::put::{entry_length, put, put_entry};
 use ledger::Ledger;
 use store::departures::{Departure, Departures};
 use types::refusal::Refusal;
+
+// The longest snapshot has so many words: 7, the lengths of 48 entries, 119 words for each of these, 4 for each of 32 departures.
+pub const SNAPSHOT_ROOM: usize = 5895;
 
 // How many words the entries have.
 fn entries_length(ledger: &Ledger) -> usize
@@ -110,4 +114,12 @@ pub fn snapshot(ledger: &Ledger, lent: &mut [u64]) -> Result<u64, Refusal>
     let at = put_entries(ledger, lent, at);
     put_departures(&ledger.departures, lent, at);
     Ok(n as u64)
+}
+
+// The same where there is room for every snapshot, so that none is refused; how many words it has.
+pub fn whole_snapshot(ledger: &Ledger, words: &mut [u64; SNAPSHOT_ROOM]) -> usize
+    requires { Held ledger.now }
+    ensures { Whole ledger.now words.new result }
+{
+    snapshot(ledger, words).unwrap_or(0) as usize
 }

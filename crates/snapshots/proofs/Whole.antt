@@ -1,4 +1,4 @@
--- A snapshot that is taken into a list which each has room in: how many words it has, and that these are all.
+-- A snapshot written to a list that each has room in: how many words it has, and that these are all.
 -- Assumes nothing.
 use Prim.Native.Nat.{ℕ, ◌≤◌}
 use mathlib.Core.Path.{◌≡◌, refl, ap₂, ◌∙◌}
@@ -22,16 +22,16 @@ use Rattle.ledger.specs.declared.Ledger.{Ledger}
 use Rattle.ledger.specs.Contents.{contents, Held}
 use Rattle.ledger.proofs.Places.{entries-length}
 use Rattle.readings.specs.Reads.{answer_in, Reads}
-use Rattle.replay.specs.Dump.{Taken}
+use Rattle.snapshots.specs.Whole.{Whole}
 
 unwrapped : (r : Result ℕ Refusal) → result_unwrap_or r 0 ≡ answer_in r
 unwrapped (Ok n) = refl
 unwrapped (Err e) = refl
 
-pub taken : (l : Ledger) (was now : List ℕ) (r : Result ℕ Refusal) (n : ℕ) → Held l → length was ≡ 5895 → Reads (read (take_snapshot (length was)) (contents l)) was now r →
-    n ≡ result_unwrap_or r 0 → Taken l now n
+pub whole : (l : Ledger) (was now : List ℕ) (r : Result ℕ Refusal) (n : ℕ) → Held l → length was ≡ 5895 → Reads (read (take_snapshot (length was)) (contents l)) was now r →
+    n ≡ result_unwrap_or r 0 → Whole l now n
 unfolding contents
-taken l was now r n h e reads u =
+whole l was now r n h e reads u =
     let ws : List ℕ = snapshot_words (contents l) in
     let few : length ws ≤ 5895 = snapshot-few (contents l) h.good in
     let short : too_short (length was) (concat_map single ws) ≡ false = rw (concat_map-single ws) (le-ltb (length was) (length ws) (omega (arith, few, e))) in
@@ -39,6 +39,7 @@ taken l was now r n h e reads u =
     let size : n ≡ length ws = u ∙ unwrapped r ∙ said.answer in
     record {
       few = omega (arith, size, few);
+      count = size;
       many = omega (arith, size, snapshot-length (contents l), entries-length l h);
       snapshot = ap₂ take size (rw (concat_map-single ws) at said.wrote) ∙ take-append_seam ws (drop (length ws) was);
     }
