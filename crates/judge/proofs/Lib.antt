@@ -1,3 +1,4 @@
 pub mod Seeing
+pub mod Leaving
 pub mod Filling
 pub mod Judging

@@ -3,7 +3,8 @@ use Rattle.std.specs.Prelude.{ℕ, ◌≡◌, Bool, true, List, ltb}
 use Rattle.lists.specs.Lists.{keep, any}
 use Rattle.rules.specs.Numbers.{is_shard}
 use Rattle.rules.specs.Plain.{Entry, Departure, remote}
-use Rattle.rules.specs.Prune.{readable, is_of_departed_by, over, departure_over, answerable}
+use Rattle.rules.specs.Over.{over, departure_over}
+use Rattle.rules.specs.Prune.{readable, is_of_departed_by, answerable}
 use Rattle.judge.specs.declared.views.Seen.{Seen}
 use Rattle.judge.specs.declared.views.View.{View}
 use Rattle.judge.specs.View.{zeros_of, Shows}

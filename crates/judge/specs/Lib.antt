@@ -1,3 +1,4 @@
 pub mod View
+pub mod Over
 pub mod Answers
 pub mod Verdict

@@ -1,10 +1,10 @@
 -- What a view shows of the departures on file at a clock.
 use Rattle.std.specs.Prelude.{ℕ, ◌≡◌, ◌<◌, List, length, get_or}
 use Rattle.std.specs.Int.Count.{count_leading_zeros}
-use Rattle.lists.specs.Lists.{Every}
+use Rattle.std.proofs.Math.Option.{none}
 use Rattle.rules.specs.Plain.{Departure}
 use Rattle.rules.specs.Prune.{readable}
-use Rattle.rules.specs.Good.{GoodDeparture}
+use Rattle.rules.specs.Good.{GoodDepartures}
 use Rattle.judge.specs.declared.views.Seen.{Seen}
 use Rattle.judge.specs.declared.views.View.{View}
 
@@ -15,6 +15,10 @@ cut_of d = d.cut
 abbrev pub zeros_of : Departure → ℕ
 zeros_of d = count_leading_zeros 64 d.shard
 
+-- the departure as it is seen: with no stamp, in whose place stands whether it is readable
+abbrev pub departure_of : Seen → Departure
+departure_of x = record { shard = x.shard.0; cut = x.cut.0; stamp = none }
+
 -- a departure's shard, its leading zeros, its cut, and whether it is readable
 pub record Sees (now : ℕ) (d : Departure) (x : Seen) : Type 0 where
   pub shard : x.shard.0 ≡ d.shard
@@ -24,6 +28,6 @@ pub record Sees (now : ℕ) (d : Departure) (x : Seen) : Type 0 where
 
 -- in order, each departure
 pub record Shows (ds : List Departure) (now : ℕ) (v : View) : Type 0 where
-  pub good : Every GoodDeparture ds
+  pub good : GoodDepartures ds
   pub count : length ds ≡ v.seen.len
   pub seen : (j : ℕ) (d : Departure) (x : Seen) → j < v.seen.len → Sees now (get_or ds j d) (get_or v.seen.items j x)

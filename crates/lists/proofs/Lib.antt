@@ -5,6 +5,7 @@ pub mod Order
 pub mod Change
 pub mod Parts
 pub mod Parted
+pub mod Contained
 pub mod Loops
 pub mod Ranked
 pub mod Distinct

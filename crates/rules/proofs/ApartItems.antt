@@ -18,7 +18,8 @@ use Rattle.rules.specs.Numbers.{is_shard}
 use Rattle.rules.specs.Plain.{remainder, Terms, Entry, Plain, transaction_of, shard_of, remote, owed}
 use Rattle.rules.specs.Words.{record_shard, record_groups, record_formed, record_timed, finalization_lines, deciding, Line}
 use Rattle.rules.specs.Entries.{rebuilt, with_part, with_departed_by, with_group, rebuilt_of, with_groups, Ruling, skip, resolve, release, ruling, ruled, is_release, ruling_in, with_line, released_of, with_lines}
-use Rattle.rules.specs.Prune.{over, is_of_departed_by, holds}
+use Rattle.rules.specs.Over.{over}
+use Rattle.rules.specs.Prune.{is_of_departed_by, holds}
 use Rattle.rules.specs.Calls.{no_room_for, abandonment_refusal, after_abandonment, finalization_refusal, after_finalization}
 use Rattle.rules.specs.Good.{Good}
 use Rattle.rules.specs.LeftOut.{Taking, less, Omitted, dropped_in, is_for_room, Clear}

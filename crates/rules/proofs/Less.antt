@@ -13,7 +13,9 @@ use Rattle.lists.proofs.Keep.{keep_same, keep-count, keep_all, keep_never, any_s
 use Rattle.lists.proofs.Order.{ascending-keep}
 use Rattle.lists.proofs.Distinct.{or_not_left, or_not_right}
 use Rattle.rules.specs.Plain.{Entry, Departure, Plain, transaction_of, shard_of, remote, with_entries, with_departures}
-use Rattle.rules.specs.Prune.{readable, over, is_of_departed_by, counting, answerable, Rule, awaiting, settling, recorded, answering, expiring, rule_of, stands_by, stands, Report, report_of, report_words, survivors, fallen, reports, holds, remains, pruned, insert_all, in_order}
+use Rattle.rules.proofs.Over.{same_over}
+use Rattle.rules.specs.Over.{over}
+use Rattle.rules.specs.Prune.{readable, is_of_departed_by, answerable, Rule, awaiting, settling, recorded, answering, expiring, rule_of, stands_by, stands, Report, report_of, report_words, survivors, fallen, reports, holds, remains, pruned, insert_all, in_order}
 use Rattle.rules.specs.Numbers.{is_time}
 use Rattle.rules.specs.Widths.{report_size}
 use Rattle.rules.specs.Outcome.{too_short}
@@ -66,9 +68,10 @@ module _ (k : Taking) (p : Plain) where
           (keep-within (λ d. is_kept k (shard_of d)) (is_of_departed_by e) p.departures (λ d m h. or_not_left (is_of_departed_by e d) _ (clear_at e c d m h)))
       by answering =
           any_same _ _ (remote p.local e.terms)
-          (λ r n. ap (λ l. answerable u (counting l))
+          (λ r n. ap (answerable u)
+          (same_over _ _ e r
           (keep-within (λ d. is_kept k (shard_of d)) (over e r) p.departures
-          (λ d m h. none_member (λ r. over e r d) (remote p.local e.terms) (or_not_right (is_of_departed_by e d) _ (clear_at e c d m h)) n)))
+          (λ d m h. none_member (λ r. over e r d) (remote p.local e.terms) (or_not_right (is_of_departed_by e d) _ (clear_at e c d m h)) n))))
       by expiring = refl
 
 module _ (o : Omitted) (fell : Felled) (p : Plain) (b : Beside o fell p) (u : ℕ) (h : o.clock ≤ u) where

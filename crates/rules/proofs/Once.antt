@@ -8,7 +8,9 @@ use Rattle.lists.proofs.Tests.{or_left, or_right}
 use Rattle.lists.proofs.Keep.{keep-keep, keep_same, any_same, any-has, any-keep, keep-count}
 use Rattle.lists.proofs.Order.{ascending-keep}
 use Rattle.rules.specs.Plain.{Entry, Departure, Plain, transaction_of, remote}
-use Rattle.rules.specs.Prune.{readable, over, is_of_departed_by, counting, answerable, Rule, awaiting, settling, recorded, answering, expiring, rule_of, stands_by, stands, survivors, fallen, reports, holds, remains, pruned, all_reports, insert_all, in_order, Steady, last_of, AsOnce}
+use Rattle.rules.proofs.Over.{same_over}
+use Rattle.rules.specs.Over.{over}
+use Rattle.rules.specs.Prune.{readable, is_of_departed_by, answerable, Rule, awaiting, settling, recorded, answering, expiring, rule_of, stands_by, stands, survivors, fallen, reports, holds, remains, pruned, all_reports, insert_all, in_order, Steady, last_of, AsOnce}
 use Rattle.rules.proofs.Ordered.{insert_all-append, in_order_alone, length-insert_all, ascending-told, told_again, told?}
 use Rattle.rules.proofs.Verdicts.{stands-before}
 
@@ -25,9 +27,10 @@ stands_after p t u e m = by (rule_of p.local e)
         (keep-keep _ (is_of_departed_by e) (λ d s. any-has (holds p.local d) m (or_left _ _ s)) p.departures)
     by answering =
         any_same _ _ (remote p.local e.terms)
-        (λ r n. ap (λ l. answerable u (counting l))
+        (λ r n. ap (answerable u)
+        (same_over _ _ e r
         (keep-keep _ (over e r)
-        (λ d s. any-has (holds p.local d) m (or_right (is_of_departed_by e d) _ (any-has (λ r. over e r d) n s))) p.departures))
+        (λ d s. any-has (holds p.local d) m (or_right (is_of_departed_by e d) _ (any-has (λ r. over e r d) n s))) p.departures)))
     by expiring = refl
 
 module _ {t u : ℕ} (h : t ≤ u) (p : Plain) where

@@ -2,7 +2,7 @@
 -- does not hold changes nothing.
 -- Assumes nothing.
 use Prim.Native.Nat.{ℕ, ◌≤◌}
-use mathlib.Core.Path.{◌≡◌, refl, ap, ◌∙◌}
+use mathlib.Core.Path.{◌≡◌, refl, sym, ap, ◌∙◌}
 use mathlib.Core.Bool.{Bool, true, false, cond, ◌||◌}
 use mathlib.Core.List.{List, [], ◌∷◌}
 use mathlib.Core.Option.{Option, none, some}
@@ -15,7 +15,9 @@ use Rattle.lists.proofs.Keep.{any_more, any_same}
 use Rattle.lists.proofs.Order.{keep-include}
 use Rattle.lists.proofs.Distinct.{or_not_left, or_not_right}
 use Rattle.rules.specs.Plain.{Entry, Departure, Plain, shard_of, remote, with_entries, with_departures, with_rebuilt}
-use Rattle.rules.specs.Prune.{readable_until, readable, over, is_of_departed_by, counts_before, earlier, counting, departure_over, answerable, leg_horizon, validity_horizon, Rule, awaiting, settling, recorded, answering, expiring, rule_of, stands_by, stands, holds}
+use Rattle.rules.proofs.Over.{over_route, same_over}
+use Rattle.rules.specs.Over.{over, counts_before, earlier, smallest_cut, departure_over}
+use Rattle.rules.specs.Prune.{readable_until, readable, is_of_departed_by, answerable, leg_horizon, validity_horizon, Rule, awaiting, settling, recorded, answering, expiring, rule_of, stands_by, stands, holds}
 use Rattle.rules.specs.Calls.{first_stamp, stamped}
 use Rattle.lists.proofs.Parted.{keep-change_if, none_member, lacking_every}
 
@@ -107,10 +109,10 @@ module _ (u : ℕ) where
       go true = w
       go false = v
 
-  counting-stamped : (until : ℕ) (q : Departure → Bool) (l : List Departure) → BothStamped (counting (change_if q (stamped until) l)) (counting l)
-  counting-stamped until q [] = tt
-  counting-stamped until q (x ∷ l) =
-      earlier-stamped (cond (q x) (stamped until x) x) x (one (q x)) (counting (change_if q (stamped until) l)) (counting l) (counting-stamped until q l)
+  smallest-stamped : (until : ℕ) (q : Departure → Bool) (l : List Departure) → BothStamped (smallest_cut (change_if q (stamped until) l)) (smallest_cut l)
+  smallest-stamped until q [] = tt
+  smallest-stamped until q (x ∷ l) =
+      earlier-stamped (cond (q x) (stamped until x) x) x (one (q x)) (smallest_cut (change_if q (stamped until) l)) (smallest_cut l) (smallest-stamped until q l)
     where
       one : (b : Bool) → Stamped (cond b (stamped until x) x) x
       one true = record { shard = refl; cut = refl; reads = stamped-readable until x }
@@ -137,9 +139,10 @@ module _ (u : ℕ) where
           (rw (keep-change_if (is_of_departed_by e) (at shard_of s) (stamped until) (λ d. refl) p.departures) at h)
       by answering h =
           any_more _ _
-          (λ r w. answerable-stamped (counting (change_if (at shard_of s) (stamped until) (keep (over e r) p.departures))) (counting (keep (over e r) p.departures))
-          (counting-stamped until (at shard_of s) (keep (over e r) p.departures))
-          (rw (keep-change_if (over e r) (at shard_of s) (stamped until) (λ d. refl) p.departures) at w))
+          (λ r w. ap (answerable u) (over_route p.departures e r)
+          ∙ answerable-stamped (smallest_cut (change_if (at shard_of s) (stamped until) (keep (over e r) p.departures))) (smallest_cut (keep (over e r) p.departures))
+          (smallest-stamped until (at shard_of s) (keep (over e r) p.departures))
+          (ap (answerable u) (sym (over_route (stamps p.departures) e r ∙ ap smallest_cut (keep-change_if (over e r) (at shard_of s) (stamped until) (λ d. refl) p.departures))) ∙ w))
           (remote p.local e.terms) h
       by expiring h = h
 
@@ -158,6 +161,7 @@ module _ (u : ℕ) where
       by recorded = ap (any (readable u)) (passes (is_of_departed_by e) (or_not_left (is_of_departed_by e d) _ n))
       by answering =
           any_same _ _ (remote p.local e.terms)
-          (λ r m. ap (λ l. answerable u (counting l))
-          (passes (over e r) (none_member (λ r. over e r d) (remote p.local e.terms) (or_not_right (is_of_departed_by e d) _ n) m)))
+          (λ r m. ap (answerable u)
+          (same_over (include shard_of d p.departures) p.departures e r
+          (passes (over e r) (none_member (λ r. over e r d) (remote p.local e.terms) (or_not_right (is_of_departed_by e d) _ n) m))))
       by expiring = refl

@@ -3,6 +3,7 @@ pub mod Plain
 pub mod Words
 pub mod Widths
 pub mod Index
+pub mod Over
 pub mod Prune
 pub mod Outcome
 pub mod Entries
@@ -16,4 +17,5 @@ pub mod LeftOut
 pub mod Bundles
 pub mod Showing
 pub mod Instances
+pub mod Choices
 pub mod Snapshots

@@ -2,9 +2,9 @@
 use Rattle.std.specs.Prelude.{ℕ, ◌+◌, ◌≤◌, ◌≡◌, Bool, true, false, cond, not, ◌&&◌, ◌||◌, List, [], ◌∷◌, ◌++◌, map, ltb, leb, eqb, length}
 use Rattle.std.proofs.Math.Option.{Option, none, some}
 use Rattle.lists.specs.Lists.{keep, any, filled}
-use Rattle.rules.specs.Numbers.{owns}
 use Rattle.rules.specs.Plain.{Entry, Departure, Plain, is_core, is_settling, is_named, remote, transaction_of, with_entries, with_departures}
 use Rattle.rules.specs.Words.{transaction_words}
+use Rattle.rules.specs.Over.{over, departure_over}
 
 -- the first stamp holds: readable unstamped, or while now ≤ until
 abbrev pub readable_until : ℕ → Option ℕ → Bool
@@ -14,29 +14,9 @@ readable_until now (some until) = leb now until
 abbrev pub readable : ℕ → Departure → Bool
 readable now d = readable_until now d.stamp
 
--- a departure is over a route of an entry when its shard owns it and cut > anchor
-abbrev pub over : Entry → ℕ → Departure → Bool
-over e route d = owns d.shard route && ltb e.terms.anchor d.cut
-
 -- a departure of the shard that names the entry
 abbrev pub is_of_departed_by : Entry → Departure → Bool
 is_of_departed_by e d = is_named e && eqb e.departed_by d.shard
-
--- the smallest cut counts, the lower shard on equal cuts
-abbrev pub counts_before : Departure → Departure → Bool
-counts_before d b = ltb d.cut b.cut || (eqb d.cut b.cut && leb d.shard b.shard)
-
-abbrev pub earlier : Departure → Option Departure → Option Departure
-earlier d none = some d
-earlier d (some b) = cond (counts_before d b) (some d) (some b)
-
-abbrev pub counting : List Departure → Option Departure
-counting [] = none
-counting (d ∷ l) = earlier d (counting l)
-
--- the departure that counts over a route of an entry
-abbrev pub departure_over : List Departure → Entry → ℕ → Option Departure
-departure_over ds e route = counting (keep (over e route) ds)
 
 -- no departure over the route, or a readable one
 abbrev pub answerable : ℕ → Option Departure → Bool

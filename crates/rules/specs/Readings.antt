@@ -6,7 +6,8 @@ use Rattle.rules.specs.Numbers.{is_time, is_shard, record_key, cell_key, shard_f
 use Rattle.rules.specs.Plain.{Edge, Entry, Plain, is_core, is_settling, transaction_of, shard_of, owed, entry_of, edges_from, is_named, is_covered, remote}
 use Rattle.rules.specs.Words.{transaction_words}
 use Rattle.rules.specs.Index.{index, names}
-use Rattle.rules.specs.Prune.{over, validity_horizon}
+use Rattle.rules.specs.Over.{over}
+use Rattle.rules.specs.Prune.{validity_horizon}
 use Rattle.rules.specs.Snapshot.{snapshot_words}
 use Rattle.rules.specs.Outcome.{Outcome, done, unless, ◌gives◌then◌, too_short, yes_no}
 

@@ -21,7 +21,8 @@ use Rattle.store.specs.Departures.{on_file}
 use Rattle.entry.proofs.Shape.{fits_of}
 use Rattle.entry.proofs.Edges.{edge_at, issuing, edges-cons, edges-end}
 use Rattle.shard_lists.specs.declared.set.Set.{Set}
-use Rattle.shard_lists.specs.Sets.{front, Holds, is_over, shards_over, departed_over, counterparts_at}
+use Rattle.rules.specs.Over.{is_over}
+use Rattle.shard_lists.specs.Sets.{front, Holds, shards_over, departed_over, counterparts_at}
 use Rattle.lists.proofs.Sets.{keep_both, gathered_once}
 use Rattle.shard_lists.proofs.Gather.{Sofar, ended}
 

@@ -1,8 +1,9 @@
 -- What a set of numbers holds, and what shards are gathered.
-use Rattle.std.specs.Prelude.{ℕ, ◌≡◌, Bool, ◌&&◌, List, ◌∷◌, map, ltb}
+use Rattle.std.specs.Prelude.{ℕ, ◌≡◌, Bool, List, ◌∷◌, map}
 use Rattle.lists.specs.Lists.{keep, any, concat_map, set_of}
 use Rattle.lists.specs.Front.{held}
-use Rattle.rules.specs.Numbers.{owns, shard_for_route}
+use Rattle.rules.specs.Numbers.{shard_for_route}
+use Rattle.rules.specs.Over.{is_over}
 use Rattle.rules.specs.Plain as plain
 use Rattle.rules.specs.Plain.{shard_of, remote}
 use Rattle.rules.specs.Readings.{is_unstamped}
@@ -28,9 +29,6 @@ Gathers Says x s = (p : plain.Departure → Bool) → ((d : Departure) (b : Bool
 
 -- what is gathered: departed shards, over a route or over one of some routes of an entry with an anchor; those without a stamp; an entry's
 -- counterparts
-abbrev pub is_over : ℕ → ℕ → plain.Departure → Bool
-is_over anchor route d = owns d.shard route && ltb anchor d.cut
-
 abbrev pub shards_over : ℕ → ℕ → List plain.Departure → List ℕ
 shards_over anchor route ds = shards_of (is_over anchor route) ds
 

@@ -6,9 +6,9 @@ pub mod set;
 
 ghost use Rattle.std.specs.Fn.{FnReturnsAt};
 ghost use Rattle.std.specs.Prelude.{◌≡◌, true, map, ◌≤◌, leb, length};
-ghost use Rattle.lists.specs.Lists.{keep, any, include_all, self};
+ghost use Rattle.lists.specs.Lists.{keep, include_all, self};
 ghost use Rattle.lists.specs.Front.{held};
-ghost use Rattle.rules.specs.Numbers.{owns, shard_for_route};
+ghost use Rattle.rules.specs.Numbers.{shard_for_route};
 ghost use Rattle.rules.specs.Plain.{is_remote};
 ghost use Rattle.rules.specs.Readings as rules;
 ghost use Rattle.rules.specs.Readings.{read, claimants_of};
@@ -114,18 +114,11 @@ fn remote(routes: &[u64], local: Shard) -> Front<u64, 8>
     far
 }
 
-// Whether the shard owns one of the routes.
-fn owns_some(shard: Shard, far: &[u64]) -> bool
-    ensures { result ≡ any (owns shard.0) far.now }
-{
-    far.iter().any(|route| shard.owns(*route))
-}
-
-// Whether a departure is over one of the routes of an entry with this anchor. The cut is the same for all of them.
+// Whether a departure is over one of the routes of an entry with this anchor.
 fn is_over(d: Departure, anchor: Time, far: &[u64]) -> bool
     ensures { result ≡ is_over_some anchor.0 far.now (plain_departure d) }
 {
-    anchor < d.cut && owns_some(d.shard, far)
+    far.iter().any(|route| d.is_over(*route, anchor))
 }
 
 // The trie's shards of the routes put into a set. What the depth has to be is asked here and in beyond, as shard_for_route asks it: a

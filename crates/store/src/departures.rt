@@ -26,6 +26,27 @@ pub struct Departures {
 
 impl Departure {
     ghost use Rattle.rules.specs.Calls.{stamped};
+    ghost use Rattle.rules.specs.Over.{is_owner, is_after, is_over};
+
+    // Whether its shard owns the route.
+    fn is_owner(self, route: u64) -> bool
+        ensures { result ≡ is_owner route (plain_departure self) }
+    {
+        self.shard.owns(route)
+    }
+
+    // Whether its cut is after the anchor.
+    fn is_after(self, anchor: Time) -> bool
+        ensures { result ≡ is_after anchor.0 (plain_departure self) }
+    {
+        anchor < self.cut
+    }
+
+    pub fn is_over(self, route: u64, anchor: Time) -> bool
+        ensures { result ≡ is_over anchor.0 route (plain_departure self) }
+    {
+        self.is_owner(route) && self.is_after(anchor)
+    }
 
     // The departure stamped, unless it is stamped already.
     fn with_stamp(self, until: Time) -> Departure

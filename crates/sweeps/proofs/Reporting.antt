@@ -9,7 +9,7 @@ use borrow.Author.Tests.{ltb-false}
 use lib.Dec.{ltb}
 use lib.ListN.{length, take, drop, set, length-map}
 use lib.Seq.{sets}
-use Rattle.lists.specs.Lists.{keep, keep_by, any, concat_map, Every}
+use Rattle.lists.specs.Lists.{keep, keep_by, any, concat_map}
 use Rattle.lists.proofs.Keep.{length-keep}
 use Rattle.lists.proofs.Distinct.{keep_by_test}
 use Rattle.rules.specs.Numbers.{is_time}
@@ -17,7 +17,7 @@ use Rattle.rules.specs.Plain as plain
 use Rattle.rules.specs.Prune.{Report, stands, rule_of, is_reported, report_of, report_words, holds, remains, survivors, fallen, reports, pruned}
 use Rattle.rules.specs.Outcome.{Outcome, ◌gives◌then◌}
 use Rattle.rules.specs.Calls.{prune_refusal, after_prune}
-use Rattle.rules.specs.Good.{GoodDeparture}
+use Rattle.rules.specs.Good.{GoodDepartures}
 use Rattle.rules.proofs.Kept.{pruned-kept}
 use Rattle.std.specs.Prelude.{Ok}
 use Rattle.types.specs.declared.refusal.Refusal.{Refusal}
@@ -93,9 +93,9 @@ module _ (l : Ledger) (h : Held l) (now : ℕ) where
   pub pass_none : JudgingIn l now begun 0
   pass_none = judging_none (stands (contents l) now) (reporting l now) (row_of l now) (holding l now) (entries_of l) (on_file l.departures) file-few
 
-  pub file-good : Every GoodDeparture (on_file l.departures)
+  pub file-good : GoodDepartures (on_file l.departures)
   unfolding contents
-  file-good = h.good.departures.rows.each
+  file-good = h.good.departures
 
   -- the entry at a place
   module _ (i : ℕ) (q : i < l.roster.len) (d : Entry) where

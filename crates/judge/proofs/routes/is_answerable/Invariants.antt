@@ -1,20 +1,14 @@
--- Downwards, the numbers beside are those of the departure that counts among those gone through; the answer over the routes still to come
--- is the answer over all.
-use Rattle.std.proofs.Common.{◌≡◌, ◌≤◌, ℕ, List, take, drop, false}
-use Rattle.lists.specs.Lists.{any, keep}
+-- The answer over the routes still to come is the answer over all; what is left of the departures over a route is readable as far as it was gone through.
+use Rattle.std.proofs.Common.{◌≡◌, ℕ, List, take, drop, false}
+use Rattle.lists.specs.Lists.{any}
 use Rattle.rules.specs.Plain.{Departure}
-use Rattle.rules.specs.Prune.{counting}
 use Rattle.judge.specs.View.{Shows}
-use Rattle.judge.proofs.Seeing.{Best, over_at, answered}
+use Rattle.judge.proofs.Seeing.{answered}
+use Rattle.judge.proofs.Leaving.{AllRead}
 use Rattle.judge.proofs.routes.is_answerable.Given as goal
 
-abbrev pub invariant-loop-j : goal.invariant-loop-j
-invariant-loop-j l =
-    (l.j ≤ l.view.seen.len)
-    × ((ds : List Departure) (now : ℕ) → Shows ds now l.view → Best now (counting (keep (over_at l.anchor.0 l.route) (drop l.j ds))) l.best.0 l.lowest.0 l.answers)
-
-abbrev pub decreases-loop-j : goal.decreases-loop-j
-decreases-loop-j l = l.j
+abbrev pub invariant-loop-place : goal.invariant-loop-place
+invariant-loop-place l = AllRead l.view l.place-items l.place-index
 
 abbrev pub invariant-routes : goal.invariant-routes
 invariant-routes l =

@@ -31,7 +31,7 @@ loop-j-preserved c =
       | then-flags-j w ↦ w.flags-is ∙ w.if-flags-j.true ∙ sym (or_left raised held w.if-flags-j.true)
       | else-flags-j w ↦
           let see = s.seen l.j nobody _ c.loop-j-test.true in
-          let good = every_at GoodDeparture nobody l.j ds (omega (arith, s.count)) s.good in
+          let good = every_at GoodDeparture nobody l.j ds (omega (arith, s.count)) s.good.rows.each in
           w.flags-is ∙ w.needs.ensures (get_or ds l.j nobody) good.shard see.shard see.zeros see.cut ∙ sym (ap (λ b. b || held) w.if-flags-j.false)
     ] in (
       length-set l.flags l.j c.if-flags-j.flags ∙ l.invariant.0,

@@ -1,5 +1,6 @@
 -- A turn sees one departure.
-use Rattle.std.proofs.Common.{get_or, length, arith, ap, sym, subst, ◌∙◌}
+use Rattle.std.proofs.Common.{get_or, length, arith, ap, sym, subst, ◌∙◌, refl}
+use Rattle.std.specs.Int.Count.{count_leading_zeros}
 use Rattle.rules.specs.Plain.{Departure}
 use Rattle.lists.proofs.Held.{held-length, held_at, each_pushed}
 use Rattle.store.specs.Departures.{on_file}
@@ -9,8 +10,12 @@ use Rattle.judge.specs.declared.views.Seen.{Seen}
 use Rattle.judge.proofs.Filling.{good_at, place_on_file}
 use Rattle.judge.proofs.views.View.of.Goals as goal
 
+pub invariant_of-none-clause-topped : goal.invariant_of-none-clause-topped
+unfolding count_leading_zeros
+invariant_of-none-clause-topped c = refl
+
 pub of-requires : goal.of-requires
-of-requires c = good_at c.args.d _ c.as_slice-departure-items.ensures c.loop-departure.departure-index (omega arith) _ c.requires
+of-requires c = good_at c.args.d _ c.as_slice-departure-items.ensures c.loop-departure.departure-index (omega arith) _ c.requires.rows.each
 
 pub loop-departure-init : goal.loop-departure-init
 loop-departure-init c = (c.new-seen.ensures.count, λ k x h d. absurd (omega (arith, c.new-seen.ensures.count)))
