@@ -217,6 +217,7 @@ fn touch(name: &str, numbers: &[u64]) -> Touch {
             files: vec![Leaving {
                 shard: words.at(0),
                 cut: words.at(1),
+                until: None,
             }],
             ..nothing
         },
@@ -290,7 +291,7 @@ fn holds(local: u64, d: &Leaving, e: &Holder) -> bool {
 
 /// Whether a route's top bits, as many as the shard's depth, are the shard without its highest bit: said of any number, as the
 /// definitions do, for which one that is no shard is as deep as the deepest.
-fn owns(shard: u64, route: u64) -> bool {
+pub fn owns(shard: u64, route: u64) -> bool {
     let depth = shard.clamp(1, LAST_SHARD).ilog2();
     let top = u128::from(route) >> (64 - depth);
     top == u128::from(shard.saturating_sub(1 << depth))

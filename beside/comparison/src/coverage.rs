@@ -5,6 +5,7 @@ use std::fmt;
 use reference::{Book, CALLS, Reply, Runner};
 
 use crate::bundles::Bundles;
+use crate::choices::Choices;
 use crate::left_out::{LeftOut, Verdict};
 use crate::limits::Limits;
 use crate::prunes::{Judged, Prunes, Rule};
@@ -72,6 +73,11 @@ impl Coverage {
 
     pub fn judged(&self, rule: Rule) -> Judged {
         self.prunes.by(rule)
+    }
+
+    /// How the departure that counts was chosen.
+    pub fn choices(&self) -> &Choices {
+        self.prunes.choices()
     }
 
     pub fn bundles(&self) -> &Bundles {

@@ -3,6 +3,7 @@
 pub mod apart;
 pub mod breaches;
 pub mod bundles;
+pub mod choices;
 pub mod coverage;
 pub mod damage;
 pub mod image;

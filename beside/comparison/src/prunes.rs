@@ -4,6 +4,7 @@ use std::fmt;
 
 use reference::{Book, ENTRIES, FILLER, Given, Remote, Reply, Standing, call_named};
 
+use crate::choices::Choices;
 use crate::sides::{HEAD, Sides};
 
 const LEG: u64 = 1;
@@ -44,11 +45,18 @@ pub struct Judged {
 }
 
 #[derive(Default)]
-pub struct Prunes([Judged; RULES.len()]);
+pub struct Prunes {
+    judged: [Judged; RULES.len()],
+    choices: Choices,
+}
 
 impl Prunes {
     pub fn by(&self, rule: Rule) -> Judged {
-        self.0[rule as usize]
+        self.judged[rule as usize]
+    }
+
+    pub fn choices(&self) -> &Choices {
+        &self.choices
     }
 
     /// Count a prune at `now` that was accepted.
@@ -57,9 +65,13 @@ impl Prunes {
         let later = pruned(before, now + 1);
         let mut fallen = Vec::new();
         let tally = before.tally();
+        let held = before.held();
         for (&transaction, entry) in &tally.owed {
             let rule = first_that_fits(entry);
-            let judged = &mut self.0[rule as usize];
+            if matches!(rule, Rule::Open | Rule::Departed) {
+                self.choices.count(now, transaction, &held);
+            }
+            let judged = &mut self.judged[rule as usize];
             let stands = after.owes(transaction);
             judged.sides.count(now, rule, entry, &tally, stands);
             if stands {
@@ -140,6 +152,6 @@ impl fmt::Display for Prunes {
         for (rule, name) in RULES {
             write!(f, "\n{name:<38}{}", self.by(rule).sides)?;
         }
-        Ok(())
+        write!(f, "\n{}", self.choices)
     }
 }

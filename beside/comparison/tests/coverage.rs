@@ -4,6 +4,7 @@
 use std::sync::LazyLock;
 
 use comparison::bundles::EDGES;
+use comparison::choices::CHOICES;
 use comparison::coverage::Coverage;
 use comparison::prunes::{RULES, Rule};
 use comparison::scripts::{Names, script};
@@ -103,6 +104,14 @@ fn at_and_end_lie_on_different_sides_of_the_clock() {
             reads_neither || other.stood.min(other.fell) > 20,
             "{coverage}"
         );
+    }
+}
+
+#[test]
+fn departures_are_chosen_at_every_step() {
+    let coverage = &*COVERAGE;
+    for (choice, name) in CHOICES {
+        assert!(coverage.choices().of(choice) > 20, "{name}: {coverage}");
     }
 }
 

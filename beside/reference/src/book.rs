@@ -36,7 +36,7 @@ pub struct Standing {
     pub remote: Remote,
 }
 
-/// What of the ledger decides which departures an entry holds.
+/// What of the ledger decides which departures an entry holds, and which of them counts over a route.
 pub struct Held {
     pub local: u64,
     pub entries: Vec<Holder>,
@@ -51,10 +51,11 @@ pub struct Holder {
     pub routes: Vec<u64>,
 }
 
-/// A departure without its stamp.
+/// A departure; until is its stamp, if it has one.
 pub struct Leaving {
     pub shard: u64,
     pub cut: u64,
+    pub until: Option<u64>,
 }
 
 /// How the departures lie over an entry's remote routes.

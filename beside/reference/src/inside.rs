@@ -83,6 +83,7 @@ pub fn held(ledger: &Ledger) -> Held {
     let leaving = |(shard, departure): (&ShardId, &Departure)| Leaving {
         shard: shard.0,
         cut: departure.cut.0,
+        until: departure.readable_until.map(|until| until.0),
     };
     Held {
         local: ledger.local.0,

@@ -18,13 +18,16 @@ fn ledger(entry: impl Fn(u64) -> Entry) -> Vec<String> {
     [MAKING.to_string()].into_iter().chain(taken).collect()
 }
 
+fn certified() -> Vec<String> {
+    (1..=FULL).map(|tx| line("certify", &[tx, 2])).collect()
+}
+
 /// Executed entries, each with eight remote routes that have four departures over them, so that the first prune drops none. At 31 they
 /// are past reading but for the one that counts over the open group's routes.
 fn executed(open: u64) -> Vec<String> {
-    let certified = (1..=FULL).map(|tx| line("certify", &[tx, 2])).collect();
     [
         ledger(Entry::whole),
-        certified,
+        certified(),
         departures(4, |group| group == open),
     ]
     .concat()
@@ -39,6 +42,12 @@ fn prunes() -> Vec<Case> {
         vec![line("record_terminal", &[5, 14, 1, 30])],
     ]
     .concat();
+    let crowded = [
+        ledger(|tx| Entry::whole(tx).reaching_together()),
+        certified(),
+        departures_on_one_path(),
+    ]
+    .concat();
     let cores = ledger(|tx| Entry::core(tx, 0));
     vec![
         Case::repeated("prune, all stand by rule 1", FULL, &cores, prune(31)),
@@ -48,6 +57,10 @@ fn prunes() -> Vec<Case> {
         fall(
             "prune, all fall, 8 routes (reports' text included)",
             &executed(none_open),
+        ),
+        fall(
+            "prune, all fall, 32 owners a route (reports' text included)",
+            &crowded,
         ),
     ]
 }
