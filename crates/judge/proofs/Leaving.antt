@@ -20,11 +20,11 @@ use Rattle.lists.proofs.Counting.{rest_down}
 use Rattle.lists.proofs.Held.{held-length, held_at, left_out, put_behind, all_put}
 use Rattle.lists.proofs.Distinct.{every_at}
 use Rattle.lists.proofs.Keep.{every_append}
-use Rattle.lists.proofs.Contained.{contains_none, contains_tail}
-use Rattle.rules.specs.Plain.{Departure}
-use Rattle.rules.specs.Over.{counts_before, earlier, smallest_cut, left_by, SmallestLeft, CountingLeft, counting}
+use Rattle.lists.proofs.Contained.{contains_none, contains_tail, one_by_key}
+use Rattle.rules.specs.Plain.{Departure, shard_of}
+use Rattle.rules.specs.Over.{counts_before, earlier, owners, cuts_after, smallest_cut, left_by, OwnersLeft, CutsLeft, SmallestLeft, CountingLeft, counting}
 use Rattle.rules.specs.Prune.{readable, answerable}
-use Rattle.rules.proofs.Over.{OneEach, one_each, smallest_left, all_answer, one_silent}
+use Rattle.rules.proofs.Over.{OneEach, owners_left, cuts_left, smallest_left, over_left, counting_left, all_answer, one_silent}
 use Rattle.judge.specs.Over.{nobody, at_place, left_of, OnFile, counts_first, LeavesOwners, LeavesCuts, LeavesSmallest, LeavesCounting}
 use Rattle.judge.specs.View.{Shows}
 use Rattle.judge.specs.declared.over.Left.{Left}
@@ -104,8 +104,8 @@ lost ds d (found.Some j) (some b) e t = rw (ap (counts_before d) (sym (same_firs
 abbrev pub Downward : List Departure → Left → ℕ → found.Option ℕ → Type 0
 Downward ds cuts k first = FirstOf ds first (smallest_cut (drop k (left_of ds cuts)))
 
-module _ (ds : List Departure) (now : ℕ) (v : View) (s : Shows ds now v) (cuts : Left) (f : OnFile v cuts) where
-  module _ (k : ℕ) (p : 0 < k) (h : k ≤ cuts.places.len) (first : found.Option ℕ) (w : Downward ds cuts k first) (place : ℕ) (at : place ≡ get_or (held cuts.places) (k - 1) 0) where
+module _ (ds : List Departure) (cuts : Left) (k : ℕ) (first : found.Option ℕ) (w : Downward ds cuts k first) where
+  module _ (p : 0 < k) (h : k ≤ cuts.places.len) (place : ℕ) (at : place ≡ get_or (held cuts.places) (k - 1) 0) where
     one_down : drop (k - 1) (left_of ds cuts) ≡ at_place ds place ∷ drop k (left_of ds cuts)
     one_down =
         rest_down (left_of ds cuts) k nobody p (omega (arith, left_length ds cuts))
@@ -117,16 +117,37 @@ module _ (ds : List Departure) (now : ℕ) (v : View) (s : Shows ds now v) (cuts
     pub turn_lost : counts_first ds (at_place ds place) first ≡ false → Downward ds cuts (k - 1) first
     turn_lost t = w ∙ ap left_by (sym (ap smallest_cut one_down ∙ lost ds (at_place ds place) first (smallest_cut (drop k (left_of ds cuts))) w t))
 
-  pub all_down : (k : ℕ) → k ≡ 0 → (first : found.Option ℕ) → Downward ds cuts k first → (left : Left) → held left.places ≡ option_to_list first → SmallestLeft (left_of ds cuts) (left_of ds left)
-  all_down k z first w left e =
-      subst (SmallestLeft (left_of ds cuts)) (sym (ap (map (at_place ds)) e ∙ w ∙ ap (λ n. left_by (smallest_cut (drop n (left_of ds cuts)))) z))
-      (smallest_left (left_of ds cuts) each)
-    where
-      on : (d : Departure) → Contains (left_of ds cuts) d → Contains ds d
-      on d c = filed ds v.seen.len (omega (arith, s.count)) (held cuts.places) f d c
+  pub all_down : k ≡ 0 → (left : Left) → held left.places ≡ option_to_list first → left_of ds left ≡ left_by (smallest_cut (left_of ds cuts))
+  all_down z left e = ap (map (at_place ds)) e ∙ w ∙ ap (λ n. left_by (smallest_cut (drop n (left_of ds cuts)))) z
 
-      each : OneEach (left_of ds cuts)
-      each x y c d q = one_each ds s.good.rows.order x y (on x c) (on y d) q
+-- What a step's list is says what it leaves.
+pub owners_in_words : (v : View) (route : ℕ) (x : Left) → OnFile v x → ((ds : List Departure) (now : ℕ) → Shows ds now v → left_of ds x ≡ owners route ds) → LeavesOwners v route x
+owners_in_words v route x f same =
+    record { on_file = f; list = same; left = λ ds now s. subst (OwnersLeft route ds) (sym (same ds now s)) (owners_left route ds) }
+
+pub cuts_in_words : (v : View) (anchor : ℕ) (owners x : Left) → OnFile v x →
+    ((ds : List Departure) (now : ℕ) → Shows ds now v → left_of ds x ≡ cuts_after anchor (left_of ds owners)) → LeavesCuts v anchor owners x
+cuts_in_words v anchor owners x f same =
+    let left : (ds : List Departure) (now : ℕ) → Shows ds now v → CutsLeft anchor (left_of ds owners) (left_of ds x) =
+    λ ds now s. subst (CutsLeft anchor (left_of ds owners)) (sym (same ds now s)) (cuts_left anchor (left_of ds owners)) in
+    record { on_file = f; list = same; left = left; over = λ ds now route s o. over_left anchor route ds (left_of ds owners) (left_of ds x) o (left ds now s) }
+
+pub smallest_in_words : (v : View) (cuts x : Left) → OnFile v cuts → OnFile v x →
+    ((ds : List Departure) (now : ℕ) → Shows ds now v → left_of ds x ≡ left_by (smallest_cut (left_of ds cuts))) → LeavesSmallest v cuts x
+smallest_in_words v cuts x g f same =
+    let left : (ds : List Departure) (now : ℕ) → Shows ds now v → SmallestLeft (left_of ds cuts) (left_of ds x) =
+    λ ds now s. subst (SmallestLeft (left_of ds cuts)) (sym (same ds now s)) (smallest_left (left_of ds cuts) (each ds now s)) in
+    record {
+      on_file = f;
+      list = same;
+      left = left;
+      counts = λ ds now anchor route s o. counting_left anchor route ds (left_of ds cuts) (left_of ds x) o (left ds now s);
+    }
+  where
+    each : (ds : List Departure) (now : ℕ) → Shows ds now v → OneEach (left_of ds cuts)
+    each ds now s d b c e q =
+        let on : (d : Departure) → Contains (left_of ds cuts) d → Contains ds d = filed ds v.seen.len (omega (arith, s.count)) (held cuts.places) g in
+        one_by_key shard_of ds s.good.rows.order d b (on d c) (on b e) q
 
 -- What is left answers: each of the first so many places shows a readable departure.
 abbrev pub AllRead : View → List ℕ → ℕ → Type 0
@@ -154,4 +175,8 @@ module _ (ds : List Departure) (now : ℕ) (v : View) (s : Shows ds now v) (left
 pub in_turn : (v : View) (route anchor : ℕ) (owning after left : Left) → LeavesOwners v route owning → LeavesCuts v anchor owning after → LeavesSmallest v after left →
     LeavesCounting v route anchor left
 in_turn v route anchor owning after left o c s =
-    record { on_file = s.on_file; left = λ ds now h. s.counts ds now anchor route h (c.over ds now route h (o.left ds now h)) }
+    record {
+      on_file = s.on_file;
+      list = λ ds now h. s.list ds now h ∙ ap (λ l. left_by (smallest_cut l)) (c.list ds now h ∙ ap (cuts_after anchor) (o.list ds now h));
+      left = λ ds now h. s.counts ds now anchor route h (c.over ds now route h (o.left ds now h));
+    }

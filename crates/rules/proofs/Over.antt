@@ -107,9 +107,6 @@ cuts_left anchor ds d = contains-keep (is_after anchor) ds d
 abbrev pub OneEach : List Departure → Type 0
 OneEach ds = (x y : Departure) → Contains ds x → Contains ds y → x.shard ≡ y.shard → x ≡ y
 
-pub one_each : (ds : List Departure) → Ascending shard_of ds → OneEach ds
-one_each ds a x y c d h = one_by_key shard_of ds a x y c d h
-
 pub smallest_left : (ds : List Departure) → OneEach ds → SmallestLeft ds (left_by (smallest_cut ds))
 smallest_left ds u = go (smallest_cut ds) (chosen ds)
   where
@@ -165,7 +162,7 @@ module _ (anchor route : ℕ) (file : List Departure) where
   pub definition_counts : Ascending shard_of file → CountingLeft anchor route file (left_by (counting anchor route file))
   definition_counts a =
       counting_left (cuts_after anchor (owners route file)) (left_by (counting anchor route file)) definition_over
-      (smallest_left (cuts_after anchor (owners route file)) (λ x y m n h. one_each file a x y ((definition_over x).0 m).0 ((definition_over y).0 n).0 h))
+      (smallest_left (cuts_after anchor (owners route file)) (λ x y m n h. one_by_key shard_of file a x y ((definition_over x).0 m).0 ((definition_over y).0 n).0 h))
 
 -- so whoever leaves the departure that counts leaves that of the definitions: it answers if all that is left answers, and does not if some does not
 module _ (anchor route now : ℕ) (ds left : List Departure) (a : Ascending shard_of ds) (l : CountingLeft anchor route ds left) where

@@ -1,13 +1,10 @@
 -- A turn puts the place of a cut after the anchor down, and passes another by.
-use Rattle.std.proofs.Common.{ℕ, List, ◌∙◌, arith, sym, ap, length, get_or, subst}
+use Rattle.std.proofs.Common.{◌∙◌, arith, sym, ap, length, get_or}
 use Rattle.lists.proofs.Held.{held-length}
-use Rattle.rules.specs.Plain.{Departure}
-use Rattle.rules.specs.Over.{is_after, CutsLeft}
-use Rattle.rules.proofs.Over.{cuts_left, over_left}
-use Rattle.judge.specs.View.{Shows}
+use Rattle.rules.specs.Over.{is_after}
 use Rattle.judge.specs.Over.{left_of}
 use Rattle.judge.proofs.Seeing.{after_at}
-use Rattle.judge.proofs.Leaving.{one_more, passed_by, all_left, still_on_file, left_length, turn_on, turn_at, turn_in}
+use Rattle.judge.proofs.Leaving.{one_more, passed_by, all_left, still_on_file, left_length, turn_on, turn_at, turn_in, cuts_in_words}
 use Rattle.judge.proofs.over.cuts_after.Goals as goal
 
 pub departures-preserved-then-not-is_after : goal.departures-preserved-then-not-is_after
@@ -49,13 +46,5 @@ returns c =
     let l = c.departures in
     let anchor = c.args.anchor.0 in
     let owners = c.args.owners.now in
-    let left : (ds : List Departure) (now : ℕ) → Shows ds now c.args.view.now → CutsLeft anchor (left_of ds owners) (left_of ds l.left) =
-    λ ds now s.
-    subst (CutsLeft anchor (left_of ds owners))
-    (sym (all_left (is_after anchor) (left_of ds owners) _ l.place-index (omega (arith, left_length ds owners, held-length owners.places, ap length c.as_slice-place-items.ensures)) (l.invariant.2 ds now s)))
-    (cuts_left anchor (left_of ds owners)) in
-    record {
-      on_file = l.invariant.1;
-      left = left;
-      over = λ ds now route s o. over_left anchor route ds (left_of ds owners) (left_of ds l.left) o (left ds now s);
-    }
+    cuts_in_words c.args.view.now anchor owners l.left l.invariant.1
+    (λ ds now s. all_left (is_after anchor) (left_of ds owners) _ l.place-index (omega (arith, left_length ds owners, held-length owners.places, ap length c.as_slice-place-items.ensures)) (l.invariant.2 ds now s))

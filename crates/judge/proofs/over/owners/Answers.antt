@@ -1,10 +1,9 @@
 -- A turn puts the place of an owner down, and passes another by.
-use Rattle.std.proofs.Common.{◌∙◌, arith, sym, ap, get_or, subst}
-use Rattle.rules.specs.Over.{is_owner, OwnersLeft}
-use Rattle.rules.proofs.Over.{owners_left}
+use Rattle.std.proofs.Common.{◌∙◌, arith, sym, ap, get_or}
+use Rattle.rules.specs.Over.{is_owner}
 use Rattle.judge.specs.Over.{at_place}
 use Rattle.judge.proofs.Seeing.{owner_at}
-use Rattle.judge.proofs.Leaving.{one_more, passed_by, all_left, still_on_file}
+use Rattle.judge.proofs.Leaving.{one_more, passed_by, all_left, still_on_file, owners_in_words}
 use Rattle.judge.proofs.over.owners.Goals as goal
 
 pub departures-preserved-then-not-is_owner : goal.departures-preserved-then-not-is_owner
@@ -33,7 +32,4 @@ pub returns : goal.returns
 returns c =
     let l = c.departures in
     let route = c.args.route in
-    record {
-      on_file = l.invariant.1;
-      left = λ ds now s. subst (OwnersLeft route ds) (sym (all_left (is_owner route) ds _ l.j (omega (arith, s.count)) (l.invariant.2 ds now s))) (owners_left route ds);
-    }
+    owners_in_words c.args.view.now route l.left l.invariant.1 (λ ds now s. all_left (is_owner route) ds _ l.j (omega (arith, s.count)) (l.invariant.2 ds now s))

@@ -1,12 +1,7 @@
 -- A turn that counts before the first so far takes its place; at the end what is left is the smallest of all.
-use Rattle.std.proofs.Common.{ℕ, List, ◌-◌, ◌∙◌, arith, sym}
+use Rattle.std.proofs.Common.{◌-◌, ◌∙◌, arith, sym}
 use Rattle.lists.proofs.Held.{held_at}
-use Rattle.rules.specs.Plain.{Departure}
-use Rattle.rules.specs.Over.{SmallestLeft}
-use Rattle.rules.proofs.Over.{counting_left}
-use Rattle.judge.specs.View.{Shows}
-use Rattle.judge.specs.Over.{left_of}
-use Rattle.judge.proofs.Leaving.{item_on, turn_won, turn_lost, all_down}
+use Rattle.judge.proofs.Leaving.{item_on, turn_won, turn_lost, all_down, smallest_in_words}
 use Rattle.judge.proofs.over.smallest_cut.Goals as goal
 
 pub counts_first-requires : goal.counts_first-requires
@@ -18,7 +13,7 @@ departures-preserved-then-not-counts_first c =
     let cuts = c.args.cuts.now in (
       omega (arith, l.invariant.0),
       l.invariant.1,
-      λ ds now s. turn_lost ds now c.args.view.now s cuts c.requires l.k (omega arith) l.invariant.0 _ (l.invariant.2 ds now s) _ (sym (held_at cuts.places (l.k - 1) 0 (omega (arith, l.invariant.0))))
+      λ ds now s. turn_lost ds cuts l.k _ (l.invariant.2 ds now s) (omega arith) l.invariant.0 _ (sym (held_at cuts.places (l.k - 1) 0 (omega (arith, l.invariant.0))))
           (sym (c.counts_first.ensures ds now s) ∙ c.if-not-counts_first.true),
     )
 
@@ -29,18 +24,12 @@ departures-preserved c =
     let cuts = c.args.cuts.now in (
       omega (arith, l.invariant.0),
       (item_on v cuts (l.k - 1) c.requires (omega (arith, l.invariant.0)), tt),
-      λ ds now s. turn_won ds now v s cuts c.requires l.k (omega arith) l.invariant.0 _ (l.invariant.2 ds now s) _ (sym (held_at cuts.places (l.k - 1) 0 (omega (arith, l.invariant.0)))) (sym (c.counts_first.ensures ds now s) ∙ c.if-not-counts_first.false),
+      λ ds now s. turn_won ds cuts l.k _ (l.invariant.2 ds now s) (omega arith) l.invariant.0 _ (sym (held_at cuts.places (l.k - 1) 0 (omega (arith, l.invariant.0)))) (sym (c.counts_first.ensures ds now s) ∙ c.if-not-counts_first.false),
     )
 
 pub returns : goal.returns
 returns c =
     let l = c.departures in
-    let v = c.args.view.now in
     let cuts = c.args.cuts.now in
-    let left : (ds : List Departure) (now : ℕ) → Shows ds now v → SmallestLeft (left_of ds cuts) (left_of ds c.of.result) =
-    λ ds now s. all_down ds now v s cuts c.requires l.k (omega arith) l.first (l.invariant.2 ds now s) c.of.result c.of.ensures in
-    record {
-      on_file = rw c.of.ensures l.invariant.1;
-      left = left;
-      counts = λ ds now anchor route s o. counting_left anchor route ds (left_of ds cuts) (left_of ds c.of.result) o (left ds now s);
-    }
+    smallest_in_words c.args.view.now cuts c.of.result c.requires (rw c.of.ensures l.invariant.1)
+    (λ ds now s. all_down ds cuts l.k l.first (l.invariant.2 ds now s) (omega arith) c.of.result c.of.ensures)
