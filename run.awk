@@ -5,10 +5,11 @@ BEGIN {
     meaning[6] = "too few free entries"; meaning[7] = "eight absences stand already"; meaning[8] = "32 departures stand already"
     meaning[9] = "the lent list is too short"; meaning[10] = "an item is of an unknown kind"; meaning[11] = "the bundle's number, kinds and lengths do not make up its words"
     meaning[12] = "the words have not the form of a snapshot"; meaning[13] = "the words are no ledger's snapshot"
+    meaning[14] = "32 other shards have a count already"
     # how many numbers each call takes, -1 for any
     takes("new 4 restore -1 snapshot 0 register_committed -1 record_absence 3 certify 2 record_abandonment -1 settled 2 returned 2 closes 0 fated 1 release_resolved -1")
     takes("forget 1 record_terminal 4 stamp_terminal 2 prune 1 bundle -1 questions 0 open_at 6 answers 7 past_deadline 1 issuers_of 1 claimants 2 counterparts 2")
-    takes("unstamped_departures 0 reach 1 abandonment_answers 1 is_covered 1 departed 1 executed 1 reaches_beyond 1 issued_by 2 local 0 rebuilt 0 dump 0 repeat 1")
+    takes("unstamped_departures 0 reach 1 abandonment_answers 1 is_covered 1 departed 1 executed 1 reaches_beyond 1 issued_by 2 local 0 rebuilt 0 rebuilt_by_shard 0 dump 0 repeat 1")
     split("whole leg core remainder", parts, " ")
     while ((getline line < script) > 0) {
         if (line ~ /^#/ || line == "") { print line; continue }
@@ -80,10 +81,13 @@ function labelled(labels,    label, k, i, text) {
     return text
 }
 
-# local, V, C, L and the running count, how many entries, departures and pairs there are, then each of them in a row
-function dump(    entries, departures, pairs, i) {
+# local, V, C, L and the counts, how many entries, departures and pairs there are, then each of them in a row
+function dump(    text, counts, entries, departures, pairs, i) {
     at = 1
-    print "    -> " labelled("local|V|C|L|rebuilt")
+    text = labelled("local|V|C|L")
+    counts = next_word()
+    for (i = 0; i < counts; i++) text = text "; rebuilt: " labelled("shard|count")
+    print "    -> " text (counts ? "" : "; rebuilt none")
     entries = next_word()
     departures = next_word()
     pairs = next_word()

@@ -14,19 +14,25 @@ static uint64_t word(const uint8_t *bytes, size_t i) {
     return n;
 }
 
+/* Where the number of entries stands, and behind it that of departures: the counts lie ahead of them. */
+static size_t sizes(const uint8_t *bytes) {
+    return word(bytes, 4) * 2 + 5;
+}
+
 /* How many bytes a snapshot has, by its own sizes. */
 static size_t snapshot_len(const uint8_t *bytes) {
-    size_t entries = word(bytes, 5);
-    size_t words = 7 + entries + 4 * word(bytes, 6);
+    size_t at = sizes(bytes);
+    size_t entries = word(bytes, at);
+    size_t words = at + 2 + entries + 4 * word(bytes, at + 1);
     for (size_t i = 0; i < entries; i++) {
-        words += word(bytes, 7 + i);
+        words += word(bytes, at + 2 + i);
     }
     return words * 8;
 }
 
-/* A ledger with one entry, which a record of shard 5 names, and one departure, of shard 6. */
-static const uint64_t stored[28] = {
-    4, 100, 50, 200, 1, 1, 1, 16,                        /* the numbers in front, the entry's length */
+/* A ledger with one entry, which a record of shard 5 rebuilt, and one departure, of shard 6. */
+static const uint64_t stored[30] = {
+    4, 100, 50, 200, 1, 5, 1, 1, 1, 16,                  /* the numbers in front, shard 5's count among them, the entry's length */
     1, 0, 0, 9, 1000, 1100, 10, 7, 0, UINT64_C(1) << 62, /* the entry: its admission */
     0, 2, 5, 0, 0, 0,                                    /* and its history */
     6, 12, 1, 30,                                        /* the departure */
@@ -52,7 +58,8 @@ int main(void) {
         printf("report: transaction %" PRIu64 ", covered %" PRIu64 ", charge %" PRIu64 "\n",
                word(reports, 2 + 3 * i), word(reports, 3 + 3 * i), word(reports, 4 + 3 * i));
     }
-    printf("after it: %zu bytes, %" PRIu64 " entries, %" PRIu64 " departures\n", snapshot_len(after), word(after, 5), word(after, 6));
+    size_t at = sizes(after);
+    printf("after it: %zu bytes, %" PRIu64 " entries, %" PRIu64 " departures\n", snapshot_len(after), word(after, at), word(after, at + 1));
 
     refused = owed_ledger_read(ledger, sizeof stored - 8, after, sizeof after);
     printf("read of a word less: %" PRIu64 "\n", refused);

@@ -2,10 +2,10 @@
 
 use owed_ledger::{Ledger, Refusal, Spans};
 
-/// A ledger with one entry, which a record of shard 5 names, and one departure, of shard 6.
+/// A ledger with one entry, which a record of shard 5 rebuilt, and one departure, of shard 6.
 #[rustfmt::skip]
-const STORED: [u64; 28] = [
-    4, 100, 50, 200, 1, 1, 1, 16,              // the numbers in front, the entry's length
+const STORED: [u64; 30] = [
+    4, 100, 50, 200, 1, 5, 1, 1, 1, 16,        // the numbers in front, shard 5's count among them, the entry's length
     1, 0, 0, 9, 1000, 1100, 10, 7, 0, 1 << 62, // the entry: its admission
     0, 2, 5, 0, 0, 0,                          // and its history
     6, 12, 1, 30,                              // the departure

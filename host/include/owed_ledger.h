@@ -29,7 +29,7 @@ enum {
 };
 
 /* The bytes of the longest snapshot, the bytes of the longest reports, and the stack that a call may use. */
-#define OWED_LEDGER_LONGEST_SNAPSHOT 47160
+#define OWED_LEDGER_LONGEST_SNAPSHOT 47672
 #define OWED_LEDGER_LONGEST_REPORTS 1168
 #define OWED_LEDGER_STACK 1048576
 

@@ -11,7 +11,7 @@
 //! let mut ledger = Ledger::new(4, spans)?;
 //! let pruned = ledger.prune(1_000)?;
 //! assert_eq!((pruned.written, pruned.fallen), (0, 0));
-//! // 7 words: local, the spans, and no count, entry or departure.
+//! // 7 words: local, the spans, and how many counts, entries and departures there are: none.
 //! assert_eq!(ledger.words(), [4, 100, 50, 200, 0, 0, 0]);
 //! # Ok::<(), owed_ledger::Refusal>(())
 //! ```
@@ -24,8 +24,8 @@ pub mod slices;
 pub use ledger::{Ledger, Pruned, Report, Spans};
 pub use refusal::Refusal;
 
-/// The bytes of the longest snapshot that there is: 5,895 words.
-pub const LONGEST_SNAPSHOT: usize = 47_160;
+/// The bytes of the longest snapshot that there is: 5,959 words.
+pub const LONGEST_SNAPSHOT: usize = 47_672;
 
 /// The bytes of the longest reports that there are: two numbers, and three words for each of 48 entries.
 pub const LONGEST_REPORTS: usize = 1_168;

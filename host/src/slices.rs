@@ -102,14 +102,18 @@ pub fn snapshot_len(bytes: &[u8]) -> Option<usize> {
         let word = bytes.get(at..at.checked_add(8)?)?;
         Some(u64::from_le_bytes(word.try_into().ok()?))
     };
-    let entries = usize::try_from(word(5)?).ok()?;
-    let departures = usize::try_from(word(6)?).ok()?;
+    let size = |i: usize| usize::try_from(word(i)?).ok();
+    // The counts, two words each, stand ahead of the other sizes.
+    let sizes = size(4)?.checked_mul(2)?.checked_add(5)?;
+    let lengths = sizes.checked_add(2)?;
+    let entries = size(sizes)?;
+    let departures = size(sizes.checked_add(1)?)?;
     let mut words = departures
         .checked_mul(4)?
         .checked_add(entries)?
-        .checked_add(7)?;
+        .checked_add(lengths)?;
     for i in 0..entries {
-        words = words.checked_add(usize::try_from(word(i.checked_add(7)?)?).ok()?)?;
+        words = words.checked_add(size(i.checked_add(lengths)?)?)?;
     }
     words.checked_mul(8)
 }

@@ -72,7 +72,7 @@ fn prunes_beside_the_original() {
         }
         let now = random.time();
         script += &line("restore", &words);
-        script += &format!("prune {now} lent 144\nsnapshot lent 5895\n");
+        script += &format!("prune {now} lent 144\nsnapshot lent 5959\n");
         cases.push((words, now));
     }
     let answers = answers(&program, script);

@@ -212,7 +212,8 @@ fn bytes_that_are_no_whole_words() {
     }
     // A last length that takes all the words behind it in, so that only the entry's own sizes say that there are too many.
     let mut words = Random::full().words();
-    words[7] += 1;
+    let lengths = 7 + 2 * words[4] as usize;
+    words[lengths] += 1;
     words.push(0);
     assert_eq!(check_read(&bytes_of(&words), LONGEST_SNAPSHOT + 8, 0), 12);
 }

@@ -71,6 +71,12 @@ fn sizes_that_stand_nowhere() {
     )
     .expect("a ledger is made")
     .words();
+    for counts in [1, u64::MAX, 1 << 63, (1 << 63) - 1] {
+        words[4] = counts;
+        let bytes = support::plain::bytes_of(&words);
+        assert_eq!(slices::snapshot_len(&bytes), None);
+    }
+    words[4] = 0;
     words[5] = u64::MAX;
     assert_eq!(
         slices::snapshot_len(&support::plain::bytes_of(&words)),

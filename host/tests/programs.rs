@@ -124,8 +124,8 @@ fn the_example_on_the_page() {
         snapshot.extend(bytes);
     }
     // The page's words are those of both programs.
-    assert_eq!(snapshot.len(), 224);
-    let mut out = [0; 224];
+    assert_eq!(snapshot.len(), 240);
+    let mut out = [0; 240];
     assert_eq!(owed_ledger::slices::read(&snapshot, &mut out), Ok(()));
     let words: Vec<u64> = snapshot
         .as_chunks()
@@ -133,9 +133,9 @@ fn the_example_on_the_page() {
         .iter()
         .map(|w| u64::from_le_bytes(*w))
         .collect();
-    assert_eq!(words_in("examples/ledger.c", "stored[28] = {", "};"), words);
+    assert_eq!(words_in("examples/ledger.c", "stored[30] = {", "};"), words);
     assert_eq!(
-        words_in("examples/ledger.rs", "STORED: [u64; 28] = [", "];"),
+        words_in("examples/ledger.rs", "STORED: [u64; 30] = [", "];"),
         words
     );
 }

@@ -281,6 +281,12 @@ impl<'a> Words<'a> {
     }
 }
 
+/// The transactions of an abandonment record's groups, as far as there are words.
+pub fn rebuilt(numbers: &[u64]) -> Vec<u64> {
+    let groups = Words(numbers).rebuilt().into_iter();
+    groups.map(|e| e.transaction).collect()
+}
+
 /// The entry is named by the departure's shard, or the departure is over a remote route of it.
 fn holds(local: u64, d: &Leaving, e: &Holder) -> bool {
     let over = |route: &u64| owns(d.shard, *route) && e.anchor < d.cut;

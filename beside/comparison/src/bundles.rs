@@ -3,7 +3,7 @@
 use std::collections::BTreeSet;
 use std::fmt;
 
-use reference::{ABSENCES, Book, DEPARTURES, ENTRIES, Given, ITEMS, KINDS, Reply};
+use reference::{ABSENCES, Book, COUNTS, DEPARTURES, ENTRIES, Given, ITEMS, KINDS, Reply};
 
 use crate::items::{ABSENCE, ADMISSION, FINALIZATION, Item, in_order, written};
 
@@ -38,11 +38,14 @@ pub enum Edge {
     Departures,
     Entries,
     Absences,
+    Counts,
     Ninth,
+    Uncounted,
+    Opened,
     Two,
 }
 
-pub const EDGES: [(Edge, &str); 17] = [
+pub const EDGES: [(Edge, &str); 20] = [
     (Edge::Kind0, "kind 0: 10"),
     (Edge::Kind6, "kind 6: 10"),
     (Edge::Both, "10, and lengths not made up"),
@@ -58,7 +61,10 @@ pub const EDGES: [(Edge, &str); 17] = [
     (Edge::Departures, "accepted, 32 departures then"),
     (Edge::Entries, "accepted, 48 entries then"),
     (Edge::Absences, "accepted, an entry's 8 absences"),
+    (Edge::Counts, "accepted, 32 counts then"),
     (Edge::Ninth, "absence refused in it: 7"),
+    (Edge::Uncounted, "record refused in it: 14"),
+    (Edge::Opened, "14, behind one that opens the 32nd"),
     (Edge::Two, "two refused, of different numbers"),
 ];
 
@@ -141,6 +147,8 @@ impl Bundles {
         self.note(Edge::Departures, full);
         let full = after.owed.len() == ENTRIES && before.owed.len() < ENTRIES;
         self.note(Edge::Entries, full);
+        let full = after.counts.len() == COUNTS && before.counts.len() < COUNTS;
+        self.note(Edge::Counts, full);
         let eighth = after.owed.iter().any(|(transaction, entry)| {
             let had = before.owed.get(transaction).map_or(0, |e| e.absences);
             had < ABSENCES && entry.absences == ABSENCES
@@ -196,6 +204,9 @@ impl Bundles {
                     let changed = contents(&book) != contents(before);
                     self.note(Edge::Middle, changed);
                     self.note(Edge::Ninth, number == 7);
+                    self.note(Edge::Uncounted, number == 14);
+                    let opened = before.tally().counts.len() < COUNTS;
+                    self.note(Edge::Opened, number == 14 && opened);
                 }
                 refusals.push(number);
             }

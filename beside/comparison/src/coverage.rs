@@ -6,13 +6,14 @@ use reference::{Book, CALLS, Reply, Runner};
 
 use crate::bundles::Bundles;
 use crate::choices::Choices;
+use crate::counts::Counts;
 use crate::left_out::{LeftOut, Verdict};
 use crate::limits::Limits;
 use crate::prunes::{Judged, Prunes, Rule};
 use crate::series::{Listener, Pairs};
 use crate::snapshots::Snapshots;
 
-const REFUSALS: usize = 14;
+const REFUSALS: usize = 15;
 const REMAINDER: u64 = 3;
 
 #[derive(Default)]
@@ -22,6 +23,7 @@ pub struct Coverage {
     calls: Calls,
     bundles: Bundles,
     snapshots: Snapshots,
+    counts: Counts,
     prunes: Prunes,
     pairs: Pairs,
     left_out: LeftOut,
@@ -47,7 +49,7 @@ impl Coverage {
         let mut runner = Runner::default();
         let mut listener = Listener::default();
         for line in script.split(|byte| *byte == b'\n') {
-            let watched = [&b"prune"[..], b"release", b"bundle"];
+            let watched = [&b"prune"[..], b"release", b"bundle", b"record_abandonment"];
             let watched = watched.iter().any(|name| line.starts_with(name));
             let before = watched.then(|| runner.book.clone());
             if !runner.take(line, out) {
@@ -88,6 +90,11 @@ impl Coverage {
         &self.snapshots
     }
 
+    /// How rebuilt entries were counted by shard.
+    pub fn counts(&self) -> &Counts {
+        &self.counts
+    }
+
     /// How often several prunes were set against one.
     pub fn pairs(&self) -> Pairs {
         self.pairs
@@ -116,9 +123,14 @@ impl Coverage {
             self.bundles
                 .count(&runner.numbers, reply, before, &runner.book);
         }
+        if let ("record_abandonment", Some(before)) = (reply.call.name, &before) {
+            self.counts.record(&runner.numbers, reply, before);
+        }
         match reply.call.name {
             "snapshot" => self.snapshots.wrote(reply, &runner.book),
             "restore" => self.snapshots.read(&runner.numbers, reply),
+            "rebuilt" => self.counts.sum(reply, &runner.book),
+            "rebuilt_by_shard" => self.counts.list(reply, &runner.book),
             _ => {}
         }
         if reply.status != 0 {
@@ -178,6 +190,7 @@ impl fmt::Display for Coverage {
         }
         writeln!(f, "{}", self.bundles)?;
         writeln!(f, "{}", self.snapshots)?;
+        writeln!(f, "{}", self.counts)?;
         writeln!(f, "{}", self.prunes)?;
         let Pairs {
             equal,

@@ -9,7 +9,7 @@ pub use tearing::tear;
 use crate::image::{Edge, Entry, Image};
 use crate::random::Random;
 use aims::AIMS;
-use filling::{fill_entry, fill_table};
+use filling::{fill_counts, fill_entry, fill_table};
 
 const WHOLE: u64 = 0;
 const LEG: u64 = 1;
@@ -32,13 +32,13 @@ pub fn fill(random: &mut Random, words: &[u64]) -> Vec<u64> {
     changed(
         random,
         words,
-        &[fill_entry, fill_entry, fill_entry, fill_table],
+        &[fill_entry, fill_entry, fill_entry, fill_table, fill_counts],
     )
 }
 
-/// Other figures of the same kind, mostly a count about its end.
+/// Other figures of the same kind, mostly counts about their ends.
 pub fn alter(random: &mut Random, words: &[u64]) -> Vec<u64> {
-    changed(random, words, &[count, count, certified])
+    changed(random, words, &[count, count, sum, certified])
 }
 
 fn changed(random: &mut Random, words: &[u64], aims: &[Aim]) -> Vec<u64> {
@@ -49,10 +49,29 @@ fn changed(random: &mut Random, words: &[u64], aims: &[Aim]) -> Vec<u64> {
     image.words()
 }
 
+/// A count about its end; local's where there is none.
 fn count(random: &mut Random, image: &mut Image) -> Option<()> {
     let few = random.below(6);
-    image.head[4] = random.pick(&[u64::MAX, u64::MAX - 1, u64::MAX - few, 0]);
+    let end = random.pick(&[u64::MAX, u64::MAX - 1, u64::MAX - few, 1]);
+    counted(random, image)[1] = end;
     Some(())
+}
+
+/// Two counts of which none is at its end, but their sum about it.
+fn sum(random: &mut Random, image: &mut Image) -> Option<()> {
+    let half = 1 << 63;
+    counted(random, image)[1] = half;
+    let others = image.counts.iter_mut().filter(|pair| pair[1] != half);
+    any(random, others)?[1] = half - random.below(4);
+    Some(())
+}
+
+/// Any count, which is local's first where there is none.
+fn counted<'a>(random: &mut Random, image: &'a mut Image) -> &'a mut [u64; 2] {
+    if image.counts.is_empty() {
+        image.counts.push([image.head[0], 1]);
+    }
+    any(random, image.counts.iter_mut()).expect("there is one")
 }
 
 /// A code that is one.

@@ -4,8 +4,10 @@ use reference::{Book, FILLER, Given, MOST_LENT, Snapshot, call_named};
 
 #[derive(Clone)]
 pub struct Image {
-    /// Local, V, C, L, count.
-    pub head: [u64; 5],
+    /// Local, V, C, L.
+    pub head: [u64; 4],
+    /// Shard and count each.
+    pub counts: Vec<[u64; 2]>,
     pub entries: Vec<Entry>,
     /// Shard, cut, stamped, until each.
     pub departures: Vec<[u64; 4]>,
@@ -41,6 +43,7 @@ impl Image {
         let snapshot = Snapshot::cut(words).ok()?;
         Some(Self {
             head: array(snapshot.head),
+            counts: snapshot.counts.into_iter().map(array).collect(),
             entries: snapshot.entries.iter().map(Entry::of).collect(),
             departures: snapshot.departures.into_iter().map(array).collect(),
         })
@@ -49,6 +52,8 @@ impl Image {
     pub fn words(&self) -> Vec<u64> {
         let entries: Vec<Vec<u64>> = self.entries.iter().map(Entry::words).collect();
         let mut words = self.head.to_vec();
+        words.push(self.counts.len() as u64);
+        words.extend(self.counts.iter().flatten());
         words.extend([self.entries.len(), self.departures.len()].map(|size| size as u64));
         words.extend(entries.iter().map(|entry| entry.len() as u64));
         words.extend(entries.into_iter().flatten());

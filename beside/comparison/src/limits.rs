@@ -2,11 +2,12 @@
 
 use std::fmt;
 
-use reference::{ABSENCES, CORE, DEPARTURES, DESTINATIONS, EDGES, ENTRIES, ROUTES};
+use reference::{ABSENCES, CORE, COUNTS, DEPARTURES, DESTINATIONS, EDGES, ENTRIES, ROUTES};
 
 /// What has a limit, in the order of the table.
 #[derive(Clone, Copy)]
 enum Kind {
+    Counts,
     Entries,
     Departures,
     Pairs,
@@ -19,7 +20,8 @@ enum Kind {
 }
 
 /// An entry has at most a mark and a pair of the index for each edge.
-const LIMITS: [(&str, u64); 9] = [
+const LIMITS: [(&str, u64); 10] = [
+    ("counts", COUNTS as u64),
     ("entries", ENTRIES as u64),
     ("departures", DEPARTURES as u64),
     ("index pairs", ENTRIES as u64 * EDGES),
@@ -64,7 +66,10 @@ impl<'a> Walk<'a> {
             words: dump,
             most: [0; LIMITS.len()],
         };
-        walk.take(5);
+        walk.take(4);
+        let counts = walk.next();
+        walk.note(Kind::Counts, counts);
+        walk.take(2 * counts);
         let [entries, departures, pairs] = [0; 3].map(|_: u64| walk.next());
         walk.note(Kind::Entries, entries);
         walk.note(Kind::Departures, departures);

@@ -7,7 +7,10 @@ pub use bundling::shuffle;
 
 use std::collections::BTreeSet;
 
-use reference::{Book, CORE, DEEPEST, DESTINATIONS, EDGES, GROUPS, LAST_TIME, ROUTES, Tally};
+use reference::{
+    Book, CORE, COUNTS, DEEPEST, DESTINATIONS, EDGES, ENTRIES, GROUPS, LAST_SHARD, LAST_TIME,
+    ROUTES, Tally,
+};
 
 use crate::pools::Pools;
 use crate::profiles::Profile;
@@ -35,7 +38,7 @@ type Draw<'a> = fn(&mut Maker<'a>) -> Vec<u64>;
 
 impl<'a> Maker<'a> {
     /// Each call with its usual weight.
-    pub const DRAWS: [(&'static str, u64, Draw<'a>); 35] = [
+    pub const DRAWS: [(&'static str, u64, Draw<'a>); 36] = [
         ("new", 1, Self::making),
         ("restore", 20, Self::snapshot),
         ("register_committed", 30, Self::admission),
@@ -69,17 +72,25 @@ impl<'a> Maker<'a> {
         ("issued_by", 2, Self::mark),
         ("local", 1, Self::nothing),
         ("rebuilt", 1, Self::nothing),
+        ("rebuilt_by_shard", 3, Self::nothing),
         ("snapshot", 3, Self::nothing),
         ("dump", 3, Self::nothing),
     ];
 
     fn transaction(&mut self) -> u64 {
-        let owed = self.tally.owed.len() as u64;
-        if owed > 0 && self.random.percent(70) {
-            let place = self.random.below(owed) as usize;
-            return self.tally.owed.keys().copied().nth(place).unwrap_or(0);
-        }
-        self.random.pick(&self.pools.transactions)
+        let owed = if self.random.percent(70) {
+            self.owed()
+        } else {
+            None
+        };
+        owed.unwrap_or_else(|| self.random.pick(&self.pools.transactions))
+    }
+
+    /// Any that is owed.
+    fn owed(&mut self) -> Option<u64> {
+        let last = self.tally.owed.len().checked_sub(1)?;
+        let place = self.random.between(0, last as u64) as usize;
+        self.tally.owed.keys().copied().nth(place)
     }
 
     fn shard(&mut self) -> u64 {
@@ -222,26 +233,88 @@ impl<'a> Maker<'a> {
         }
     }
 
-    fn abandonment(&mut self) -> Vec<u64> {
-        let groups = self.groups(if self.profile.transactions > 40 {
-            10
+    /// The shard of an abandonment record: the one due; where about as many have a count as may, half the time one that has none.
+    fn recorder(&mut self) -> u64 {
+        if let Some(turn) = self.turn {
+            return self.pools.shards[turn % self.pools.shards.len()];
+        }
+        let counts = &self.tally.counts;
+        let shards = self.pools.shards.iter().copied();
+        let others: Vec<u64> = shards.filter(|s| !counts.contains_key(s)).collect();
+        let full = counts.len() + 1 >= COUNTS && !others.is_empty();
+        if full && self.random.percent(50) {
+            self.random.pick(&others)
         } else {
-            1
-        });
-        let routes: Vec<Vec<u64>> = (0..groups).map(|_| self.routes()).collect();
-        let mut numbers = vec![groups, self.shard()];
+            self.shard()
+        }
+    }
+
+    fn abandonment(&mut self) -> Vec<u64> {
+        let brought = self.brought();
+        let routes: Vec<Vec<u64>> = brought.iter().map(|_| self.routes()).collect();
+        let mut numbers = vec![brought.len() as u64, self.recorder()];
         numbers.extend(routes.iter().map(|routes| routes.len() as u64));
-        let mut transaction = None;
-        for _ in 0..groups {
-            let mut figures = self.figures();
-            // One transaction in several groups asks for one place only.
-            let again = transaction.filter(|_| self.random.percent(20));
-            figures[0] = again.unwrap_or(figures[0]);
-            transaction = Some(figures[0]);
+        for transaction in brought {
+            let [_, figures @ ..] = self.figures();
+            numbers.push(transaction);
             numbers.extend(figures);
         }
         numbers.extend(routes.into_iter().flatten());
+        if self.all_counts() && self.random.percent(5) {
+            self.ahead_of_counts(&mut numbers);
+        }
         numbers
+    }
+
+    fn all_counts(&self) -> bool {
+        self.tally.counts.len() == COUNTS
+    }
+
+    /// The transactions of a record's groups. Where no shard more can be counted, at times only such as are owed, or such as are not about as
+    /// many as there is room for.
+    fn brought(&mut self) -> Vec<u64> {
+        let many = self.profile.transactions > 40;
+        let groups = self.groups(if many { 10 } else { 1 });
+        // The record whose turn it is brings something.
+        let groups = groups.max(u64::from(self.turn.is_some()));
+        match self.random.below(10) {
+            0..2 if self.all_counts() => (0..groups).filter_map(|_| self.owed()).collect(),
+            2 if self.all_counts() && many => self.filling(),
+            _ => self.newcomers_to(groups),
+        }
+    }
+
+    /// One transaction in several groups asks for one place only.
+    fn newcomers_to(&mut self, groups: u64) -> Vec<u64> {
+        let mut found: Vec<u64> = Vec::new();
+        for _ in 0..groups {
+            let newcomer = self.newcomer();
+            let again = found.last().filter(|_| self.random.percent(20));
+            found.push(again.copied().unwrap_or(newcomer));
+        }
+        found
+    }
+
+    /// Transactions that are not owed, as many as there is room for or one more.
+    fn filling(&mut self) -> Vec<u64> {
+        let owed = &self.tally.owed;
+        let room = ENTRIES.saturating_sub(owed.len()) + self.random.below(2) as usize;
+        let pool = self.pools.transactions.iter().copied();
+        let new = pool.filter(|t| !owed.contains_key(t));
+        new.take(room.min(GROUPS as usize)).collect()
+    }
+
+    /// Another breach of a record, which is told before its shard's count is asked for: a word too many, a time or a shard that is none.
+    fn ahead_of_counts(&mut self, numbers: &mut Vec<u64>) {
+        let groups = numbers[0] as usize;
+        match self.random.below(4) {
+            0 => numbers.push(0),
+            1 | 2 if groups > 0 => {
+                let time = groups + 3 + self.random.below(3) as usize;
+                numbers[time] = LAST_TIME + 1;
+            }
+            _ => numbers[1] = self.random.pick(&[0, LAST_SHARD + 1]),
+        }
     }
 
     fn finalization(&mut self) -> Vec<u64> {

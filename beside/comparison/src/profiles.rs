@@ -244,8 +244,54 @@ const SNAPSHOTS: Profile = Profile {
     ..MIXED
 };
 
+/// Records of more shards than rebuilt entries are counted for. At any prune falls what they brought and no departure keeps.
+const RECORDS: Profile = Profile {
+    transactions: 64,
+    shards: 44,
+    decomposed: 20,
+    breach: 4,
+    wide: 1,
+    fill: (40, "record_abandonment"),
+    lines: (10, 40),
+    favour: &[
+        "record_abandonment",
+        "record_abandonment",
+        "record_abandonment",
+        "register_committed",
+        "rebuilt_by_shard",
+        "rebuilt",
+        "forget",
+        "prune",
+    ],
+    ..MIXED
+};
+
+const RECORDED_BLOCKS: Profile = Profile {
+    favour: &["bundle", "bundle", "prune", "rebuilt_by_shard"],
+    ..RECORDS
+};
+
+/// Few shards, whose counts come back from snapshots about their ends.
+const COUNTS: Profile = Profile {
+    transactions: 8,
+    shards: 3,
+    decomposed: 40,
+    breach: 2,
+    fill: (6, "record_abandonment"),
+    lines: (20, 50),
+    favour: &[
+        "record_abandonment",
+        "record_abandonment",
+        "restore",
+        "rebuilt",
+        "rebuilt_by_shard",
+        "forget",
+    ],
+    ..MIXED
+};
+
 /// Each with its weight.
-const PROFILES: [(u64, &Profile); 17] = [
+const PROFILES: [(u64, &Profile); 20] = [
     (20, &MIXED),
     (6, &FULL),
     (2, &BRIM),
@@ -263,6 +309,9 @@ const PROFILES: [(u64, &Profile); 17] = [
     (4, &DEPARTING_BLOCKS),
     (4, &ABSENT_BLOCKS),
     (10, &SNAPSHOTS),
+    (6, &RECORDS),
+    (4, &RECORDED_BLOCKS),
+    (12, &COUNTS),
 ];
 
 pub fn pick(random: &mut Random) -> &'static Profile {

@@ -34,7 +34,7 @@ pub fn shorten(script: &[u8], mut differs: impl FnMut(&[u8]) -> bool) -> Vec<u8>
     lines.concat()
 }
 
-/// Then drop items of bundles, each with its kind, its length and its words; and entries and departures of snapshots that are restored.
+/// Then drop items of bundles, each with its kind, its length and its words; and entries, departures and counts of snapshots that are restored.
 pub fn thin(script: &[u8], mut differs: impl FnMut(&[u8]) -> bool) -> Vec<u8> {
     let mut lines: Vec<Vec<u8>> = script
         .split_inclusive(|byte| *byte == b'\n')
@@ -81,13 +81,18 @@ fn without_item(numbers: &[u64], place: usize) -> Option<Vec<u64>> {
     Some(joined(&items))
 }
 
-/// A snapshot without one of its entries or, behind these, its departures.
+/// A snapshot without one of its entries or, told behind these, its departures or its counts.
 fn without_held(numbers: &[u64], place: usize) -> Option<Vec<u64>> {
     let mut image = Image::of(numbers)?;
-    match place.checked_sub(image.entries.len()) {
-        None => drop(image.entries.remove(place)),
-        Some(behind) if behind < image.departures.len() => drop(image.departures.remove(behind)),
-        Some(_) => return None,
+    let [entries, departures] = [image.entries.len(), image.departures.len()];
+    if place < entries {
+        image.entries.remove(place);
+    } else if place < entries + departures {
+        image.departures.remove(place - entries);
+    } else if place < entries + departures + image.counts.len() {
+        image.counts.remove(place - entries - departures);
+    } else {
+        return None;
     }
     Some(image.words())
 }

@@ -3,8 +3,8 @@
 use std::fmt;
 
 use reference::{
-    ABSENCES, BREAKS, Book, Broken, CORE, DEPARTURES, DESTINATIONS, EDGES, ENTRIES, Entry, FAULTS,
-    Fault, LAST_SHARD, ROUTES, Reply, Snapshot,
+    ABSENCES, BREAKS, Book, Broken, CORE, COUNTS, DEPARTURES, DESTINATIONS, EDGES, ENTRIES, Entry,
+    FAULTS, Fault, LAST_SHARD, ROUTES, Reply, Snapshot,
 };
 
 use crate::image::snapshot_of;
@@ -33,10 +33,13 @@ pub enum Held {
     Marks,
     Entries,
     Departures,
+    NoCount,
+    Counts,
     Count,
+    Sum,
 }
 
-pub const HELD: [(Held, &str); 22] = [
+pub const HELD: [(Held, &str); 25] = [
     (Held::Nothing, "no entry and no departure"),
     (Held::Whole, "a whole entry"),
     (Held::Leg, "a leg"),
@@ -58,7 +61,10 @@ pub const HELD: [(Held, &str); 22] = [
     (Held::Marks, "8 marks"),
     (Held::Entries, "48 entries"),
     (Held::Departures, "32 departures"),
+    (Held::NoCount, "entries and no count"),
+    (Held::Counts, "32 counts"),
     (Held::Count, "a count of 2^64 - 1"),
+    (Held::Sum, "lower counts, more in all"),
 ];
 
 /// How a snapshot was written, or not.
@@ -76,6 +82,19 @@ pub const ROOMS: [(Room, &str); 4] = [
     (Room::OneShort, "9, one word short"),
     (Room::Shorter, "9, shorter"),
 ];
+
+impl Room {
+    /// How a list that needs so many words was written.
+    pub fn of(reply: &Reply, needed: usize) -> Self {
+        let room = reply.lent.len();
+        match reply.status {
+            0 if room == needed => Self::Exact,
+            0 => Self::More,
+            _ if room + 1 == needed => Self::OneShort,
+            _ => Self::Shorter,
+        }
+    }
+}
 
 #[derive(Default)]
 pub struct Snapshots {
@@ -99,15 +118,8 @@ impl Default for Faults {
 impl Snapshots {
     /// Count a `snapshot` of the ledger.
     pub fn wrote(&mut self, reply: &Reply, book: &Book) {
-        let room = reply.lent.len();
-        let needed = snapshot_of(book).len();
-        let how = match reply.status {
-            0 if room == needed => Room::Exact,
-            0 => Room::More,
-            _ if room + 1 == needed => Room::OneShort,
-            _ => Room::Shorter,
-        };
-        self.rooms[how as usize] += 1;
+        let room = Room::of(reply, snapshot_of(book).len());
+        self.rooms[room as usize] += 1;
     }
 
     /// Count a `restore` of these words.
@@ -157,6 +169,7 @@ impl Snapshots {
     fn accepted(&mut self, snapshot: &Snapshot) {
         let (entries, departures) = (&snapshot.entries, &snapshot.departures);
         let some = |is: fn(&Entry) -> bool| entries.iter().any(is);
+        let counts = snapshot.counts.iter().map(|pair| pair[1]);
         let stamped = |code| departures.iter().any(|one| one[2] == code);
         let held = HELD.map(|(what, _)| match what {
             Held::Nothing => entries.is_empty() && departures.is_empty(),
@@ -182,7 +195,13 @@ impl Snapshots {
             Held::Marks => some(|one| one.marks.len() as u64 == EDGES),
             Held::Entries => entries.len() == ENTRIES,
             Held::Departures => departures.len() == DEPARTURES,
-            Held::Count => snapshot.head[4] == u64::MAX,
+            Held::NoCount => snapshot.counts.is_empty() && !entries.is_empty(),
+            Held::Counts => snapshot.counts.len() == COUNTS,
+            Held::Count => counts.clone().any(|count| count == u64::MAX),
+            Held::Sum => {
+                let total: u128 = counts.clone().map(u128::from).sum();
+                total > u128::from(u64::MAX) && counts.clone().all(|count| count < u64::MAX)
+            }
         });
         for (count, held) in self.held.iter_mut().zip(held) {
             *count += u64::from(held);

@@ -6,6 +6,7 @@ use comparison::items::{ADMISSION, FINALIZATION, Item, RECORD, joined};
 use comparison::random::Random;
 use comparison::scripts::{Names, line, script};
 use comparison::shorten::{shorten, thin};
+use comparison::steps::each_call;
 use reference::{Book, Runner};
 
 const SEED: u64 = 79;
@@ -83,48 +84,33 @@ fn a_bundle_does_what_its_items_do_one_by_one() {
     let (mut accepted, mut refused) = (0, 0);
     for index in 0..SCRIPTS {
         let text = script(SEED, index, &names).text;
-        let mut runner = Runner::default();
-        let mut repeated = false;
-        for call in text.split(|byte| *byte == b'\n') {
-            let before = runner.book.clone();
-            if !runner.take(call, &mut Vec::new()) {
-                break;
+        each_call(&text, |step| {
+            let reply = step.after.reply.as_ref().expect("the line is a call");
+            if !step.once || reply.call.name != "bundle" {
+                return;
             }
-            let once = !repeated;
-            repeated = call.starts_with(b"repeat") || (repeated && runner.reply.is_none());
-            let Some(reply) = runner
-                .reply
-                .as_ref()
-                .filter(|reply| once && reply.call.name == "bundle")
-            else {
-                continue;
-            };
-            let shown = String::from_utf8_lossy(call);
-            match one_by_one(&runner.numbers, &before) {
+            let shown = String::from_utf8_lossy(step.line);
+            let (said, left) = match one_by_one(&step.after.numbers, &step.before) {
                 Ok((answers, book)) => {
                     accepted += 1;
-                    assert_eq!(
-                        (reply.status, &reply.said),
-                        (0, &answers),
-                        "script {index}: {shown}"
-                    );
-                    assert_eq!(
-                        contents(&runner.book),
-                        contents(&book),
-                        "script {index}: {shown}"
-                    );
+                    ((0, answers), book)
                 }
                 Err(number) => {
                     refused += 1;
-                    assert_eq!(reply.status, number, "script {index}: {shown}");
-                    assert_eq!(
-                        contents(&runner.book),
-                        contents(&before),
-                        "script {index}: {shown}"
-                    );
+                    ((number, vec![]), step.before)
                 }
-            }
-        }
+            };
+            assert_eq!(
+                (reply.status, &reply.said),
+                (said.0, &said.1),
+                "script {index}: {shown}"
+            );
+            assert_eq!(
+                contents(&step.after.book),
+                contents(&left),
+                "script {index}: {shown}"
+            );
+        });
     }
     assert!(
         accepted > 3 * SCRIPTS / 2 && refused > SCRIPTS / 2,
@@ -140,23 +126,18 @@ fn kinds_may_be_written_in_any_order() {
     let mut tried = 0;
     for index in 0..SCRIPTS / 3 {
         let text = script(SEED, index, &names).text;
-        let mut runner = Runner::default();
-        for call in text.split(|byte| *byte == b'\n') {
-            let before = runner.book.clone();
-            if !runner.take(call, &mut Vec::new()) {
-                break;
-            }
-            let bundle = call.starts_with(b"bundle");
-            let (true, Ok(mut items)) = (bundle, items(&runner.numbers)) else {
-                continue;
+        each_call(&text, |step| {
+            let bundle = step.line.starts_with(b"bundle");
+            let (true, Ok(mut items)) = (bundle, items(&step.after.numbers)) else {
+                return;
             };
             let mut kinds = vec![1, 2, 3, 4, 5];
             comparison::lines::shuffle(&mut random, &mut kinds);
             items.sort_by_key(|item| kinds.iter().position(|kind| *kind == item.kind));
             let mut answers = [Vec::new(), Vec::new()];
-            let numbers = [runner.numbers.clone(), joined(&items)];
+            let numbers = [step.after.numbers.clone(), joined(&items)];
             let books = [0, 1].map(|side| {
-                let mut runner = on(&before);
+                let mut runner = on(&step.before);
                 let call = line("bundle", &numbers[side], None);
                 runner.take(call.as_bytes(), &mut answers[side]);
                 contents(&runner.book)
@@ -167,7 +148,7 @@ fn kinds_may_be_written_in_any_order() {
                 "script {index}"
             );
             tried += 1;
-        }
+        });
     }
     assert!(tried > SCRIPTS / 3, "{tried} tried");
 }

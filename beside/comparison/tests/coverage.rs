@@ -5,6 +5,7 @@ use std::sync::LazyLock;
 
 use comparison::bundles::EDGES;
 use comparison::choices::CHOICES;
+use comparison::counts::{RECORDS, SUMS};
 use comparison::coverage::Coverage;
 use comparison::prunes::{RULES, Rule};
 use comparison::scripts::{Names, script};
@@ -12,19 +13,19 @@ use comparison::snapshots::{HELD, ROOMS};
 use reference::{BREAKS, FAULTS};
 
 /// Each call with the refusals that the paper's table allows it.
-const REFUSALS: [(&str, &[u64]); 22] = [
+const REFUSALS: [(&str, &[u64]); 23] = [
     ("new", &[1, 2]),
     ("restore", &[12, 13]),
     ("register_committed", &[3, 4, 5, 6]),
     ("record_absence", &[4, 7]),
     ("certify", &[5]),
-    ("record_abandonment", &[3, 4, 5, 6]),
+    ("record_abandonment", &[3, 4, 5, 6, 14]),
     ("closes", &[9]),
     ("release_resolved", &[5]),
     ("record_terminal", &[3, 4, 5, 8]),
     ("stamp_terminal", &[3, 4]),
     ("prune", &[3, 9]),
-    ("bundle", &[3, 4, 5, 6, 7, 8, 10, 11]),
+    ("bundle", &[3, 4, 5, 6, 7, 8, 10, 11, 14]),
     ("questions", &[9]),
     ("open_at", &[3, 4]),
     ("answers", &[3, 4, 5]),
@@ -34,6 +35,7 @@ const REFUSALS: [(&str, &[u64]); 22] = [
     ("claimants", &[9]),
     ("unstamped_departures", &[9]),
     ("reach", &[9]),
+    ("rebuilt_by_shard", &[9]),
     ("snapshot", &[9]),
 ];
 
@@ -130,6 +132,21 @@ fn bundles_come_to_every_edge() {
     }
     for (edge, name) in EDGES {
         assert!(bundles.with_edge(edge) > 20, "{name}: {coverage}");
+    }
+}
+
+#[test]
+fn counts_come_to_every_edge() {
+    let coverage = &*COVERAGE;
+    let counts = coverage.counts();
+    for (what, name) in RECORDS {
+        assert!(counts.with(what) > 20, "{name}: {coverage}");
+    }
+    for (how, name) in SUMS {
+        assert!(counts.summed(how) > 20, "{name}: {coverage}");
+    }
+    for (room, name) in ROOMS {
+        assert!(counts.with_room(room) > 100, "{name}: {coverage}");
     }
 }
 

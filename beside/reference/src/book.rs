@@ -1,17 +1,20 @@
-//! The Rust's ledger with what the paper holds beside it: the spans and the running count.
+//! The Rust's ledger with what the paper holds beside it: the spans, and for each shard whose records rebuilt entries how many.
 
 use std::collections::{BTreeMap, BTreeSet};
 
 use hyperscale_types::{ShardId, Spans, TxHash};
 
 use crate::ledger::{Ledger, inside};
-use crate::refusals::{LIST_SHORT, NO_SHARD_TO_MAKE, NO_SPAN, is_shard, is_span, unless};
+use crate::refusals::{COUNTS, LIST_SHORT, NO_SHARD_TO_MAKE, NO_SPAN, is_shard, is_span, unless};
 
 pub struct Book {
     pub(crate) ledger: Ledger,
     pub(crate) spans: Spans,
-    pub(crate) rebuilt: u64,
+    pub(crate) counts: Counts,
 }
+
+/// By shard, how many entries its records rebuilt; never 0.
+pub(crate) type Counts = BTreeMap<u64, u64>;
 
 /// What stands owed, for whoever steers or counts calls: never read to answer one.
 pub struct Tally {
@@ -20,6 +23,8 @@ pub struct Tally {
     pub pairs: Vec<(u64, u64)>,
     /// The shards of the departures on file.
     pub departures: BTreeSet<u64>,
+    /// The shards that have a count of rebuilt entries, each with it.
+    pub counts: BTreeMap<u64, u64>,
     /// The spans of rules 2 and 5: L and V.
     pub leg_entry: u64,
     pub validity: u64,
@@ -74,7 +79,7 @@ impl Default for Book {
         Self {
             ledger: Ledger::new(ShardId(1)),
             spans: Spans::ONES,
-            rebuilt: 0,
+            counts: Counts::new(),
         }
     }
 }
@@ -83,7 +88,8 @@ impl Clone for Book {
     fn clone(&self) -> Self {
         Self {
             ledger: inside::copy(&self.ledger),
-            ..*self
+            spans: self.spans,
+            counts: self.counts.clone(),
         }
     }
 }
@@ -100,7 +106,7 @@ impl Book {
         Ok(Self {
             ledger: Ledger::new(ShardId(numbers[0])),
             spans,
-            rebuilt: 0,
+            counts: Counts::new(),
         })
     }
 
@@ -113,6 +119,7 @@ impl Book {
             owed: inside::owed(&self.ledger),
             pairs: inside::pairs(&self.ledger),
             departures: inside::departed(&self.ledger),
+            counts: self.counts.clone(),
             leg_entry: self.spans.leg_entry,
             validity: self.spans.validity,
         }
@@ -120,6 +127,26 @@ impl Book {
 
     pub fn held(&self) -> Held {
         inside::held(&self.ledger)
+    }
+
+    /// Whether entries that this shard's record rebuilds can be counted: it has a count, or there is room for one more.
+    pub(crate) fn can_count(&self, shard: u64) -> bool {
+        self.counts.contains_key(&shard) || self.counts.len() < COUNTS
+    }
+
+    /// Count what a record of the shard rebuilt. One that rebuilt nothing opens no count.
+    pub(crate) fn count(&mut self, shard: u64, rebuilt: u64) {
+        if rebuilt > 0 {
+            let count = self.counts.entry(shard).or_default();
+            *count = count.saturating_add(rebuilt);
+        }
+    }
+
+    /// How many entries were rebuilt in all, as far as a word can say.
+    pub(crate) fn rebuilt(&self) -> u64 {
+        self.counts
+            .values()
+            .fold(0, |sum, count| sum.saturating_add(*count))
     }
 }
 

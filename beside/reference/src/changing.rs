@@ -10,8 +10,8 @@ use hyperscale_types::{
 use crate::book::{Book, write};
 use crate::ledger::{Ledger, inside};
 use crate::refusals::{
-    ABSENCES, ABSENCES_FULL, BAD_WORDS, DEPARTURES, DEPARTURES_FULL, ENTRIES, ENTRIES_FULL,
-    at_most, shards, times, unless,
+    ABSENCES, ABSENCES_FULL, BAD_WORDS, COUNTS_FULL, DEPARTURES, DEPARTURES_FULL, ENTRIES,
+    ENTRIES_FULL, at_most, shards, times, unless,
 };
 use crate::snapshot::restored;
 use crate::table::Given;
@@ -71,6 +71,7 @@ pub fn certify(book: &mut Book, given: Given) -> Answered {
 
 pub fn record_abandonment(book: &mut Book, given: Given) -> Answered {
     let record = abandonment_record(given.numbers)?;
+    let shard = given.numbers[1];
     let new: BTreeSet<TxHash> = record
         .unsettled()
         .iter()
@@ -78,8 +79,9 @@ pub fn record_abandonment(book: &mut Book, given: Given) -> Answered {
         .filter(|tx_hash| !book.ledger.contains(*tx_hash))
         .collect();
     unless(new.len() <= ENTRIES - book.ledger.len(), ENTRIES_FULL)?;
+    unless(new.is_empty() || book.can_count(shard), COUNTS_FULL)?;
     let rebuilt = book.ledger.record_abandonment_records(&[record]) as u64;
-    book.rebuilt = book.rebuilt.saturating_add(rebuilt);
+    book.count(shard, rebuilt);
     given.say(rebuilt)
 }
 

@@ -15,6 +15,9 @@ const RECORD_KEYS: u64 = 1 << 32;
 pub enum Fault {
     Local,
     Span,
+    CountShard,
+    CountOrder,
+    CountNone,
     EntryOrder,
     Time,
     CoreShard,
@@ -51,9 +54,12 @@ pub enum Fault {
     UntilBare,
 }
 
-pub const FAULTS: [(Fault, &str); 36] = [
+pub const FAULTS: [(Fault, &str); 39] = [
     (Fault::Local, "local no shard"),
     (Fault::Span, "a span no span"),
+    (Fault::CountShard, "count of no shard"),
+    (Fault::CountOrder, "counts not rising"),
+    (Fault::CountNone, "a count of 0"),
     (Fault::EntryOrder, "entries not rising"),
     (Fault::Time, "at, end or anchor no time"),
     (Fault::CoreShard, "core: no shard"),
@@ -95,6 +101,7 @@ pub(crate) fn faults(snapshot: &Snapshot) -> Vec<Fault> {
     let head = snapshot.head;
     found.note(Fault::Local, !is_shard(head[0]));
     found.note(Fault::Span, !head[1..4].iter().all(|span| is_span(*span)));
+    found.counts(&snapshot.counts);
     for entry in &snapshot.entries {
         found.words(entry);
         found.standing(entry);
@@ -131,6 +138,15 @@ impl Found {
         if wrong && !self.0.contains(&fault) {
             self.0.push(fault);
         }
+    }
+
+    /// What no records that rebuild are counted as.
+    fn counts(&mut self, counts: &[&[u64]]) {
+        let shards = counts.iter().map(|pair| pair[0]);
+        let no_shard = shards.clone().any(|shard| !is_shard(shard));
+        self.note(Fault::CountShard, no_shard);
+        self.note(Fault::CountOrder, !rises(shards));
+        self.note(Fault::CountNone, counts.iter().any(|pair| pair[1] == 0));
     }
 
     /// What no admission or record takes in.

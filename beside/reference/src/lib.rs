@@ -28,8 +28,8 @@ pub use bundle::{KINDS, Kind, keep_no_copy};
 pub use faults::{FAULTS, Fault};
 pub use original::ledger;
 pub use refusals::{
-    ABSENCES, CORE, DEEPEST, DEPARTURES, DESTINATIONS, EDGES, ENTRIES, GROUPS, ITEMS, LAST_SHARD,
-    LAST_TIME, LONGEST_SPAN, ROUTES,
+    ABSENCES, CORE, COUNTS, DEEPEST, DEPARTURES, DESTINATIONS, EDGES, ENTRIES, GROUPS, ITEMS,
+    LAST_SHARD, LAST_TIME, LONGEST_SPAN, ROUTES,
 };
 pub use script::{FILLER, MOST_LENT, MOST_NUMBERS, Reply, Runner, run};
 pub use snapshot::{BREAKS, Broken, Entry, Snapshot};

@@ -134,11 +134,16 @@ pub fn local(book: &mut Book, given: Given) -> Answered {
 }
 
 pub fn rebuilt(book: &mut Book, given: Given) -> Answered {
-    given.say(book.rebuilt)
+    given.say(book.rebuilt())
+}
+
+pub fn rebuilt_by_shard(book: &mut Book, given: Given) -> Answered {
+    let counts = book.counts.iter();
+    list(counts.map(|(shard, count)| [*shard, *count]), given)
 }
 
 pub fn snapshot(book: &mut Book, given: Given) -> Answered {
-    let mut words = head(book).to_vec();
+    let mut words = head(book);
     inside::snapshot(&book.ledger, &mut words);
     list(words.into_iter().map(|word| [word]), given)
 }
@@ -149,17 +154,18 @@ pub fn dump(book: &mut Book, given: Given) -> Answered {
     Ok(())
 }
 
-/// Local, the spans and the running count.
-fn head(book: &Book) -> [u64; 5] {
+/// Local, the spans, how many counts there are, and these, shard and count.
+fn head(book: &Book) -> Vec<u64> {
     let spans = book.spans;
     let local = book.ledger.local().0;
-    [
-        local,
-        spans.validity,
-        spans.core,
-        spans.leg_entry,
-        book.rebuilt,
-    ]
+    let counts = book.counts.len() as u64;
+    let mut words = vec![local, spans.validity, spans.core, spans.leg_entry, counts];
+    words.extend(
+        book.counts
+            .iter()
+            .flat_map(|(shard, count)| [*shard, *count]),
+    );
+    words
 }
 
 fn lookup(book: &Book, given: Given, ask: impl Fn(&Ledger, TxHash) -> bool) -> Answered {

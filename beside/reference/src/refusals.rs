@@ -13,6 +13,7 @@ pub const NO_KIND: u64 = 10;
 pub const BAD_BUNDLE: u64 = 11;
 pub const BAD_FORM: u64 = 12;
 pub const NEVER_WRITTEN: u64 = 13;
+pub const COUNTS_FULL: u64 = 14;
 
 pub const LAST_TIME: u64 = (1 << 48) - 1;
 pub const LAST_SHARD: u64 = (1 << 33) - 1;
@@ -21,6 +22,8 @@ pub const LONGEST_SPAN: u64 = 1 << 40;
 pub const ENTRIES: usize = 48;
 pub const DEPARTURES: usize = 32;
 pub const ABSENCES: usize = 8;
+/// Shards for which rebuilt entries are counted.
+pub const COUNTS: usize = 32;
 pub const ROUTES: u64 = 8;
 pub const CORE: u64 = 8;
 pub const EDGES: u64 = 8;

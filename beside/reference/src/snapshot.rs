@@ -6,8 +6,8 @@ use crate::book::Book;
 use crate::faults::{Fault, faults};
 use crate::ledger::inside;
 use crate::refusals::{
-    ABSENCES, BAD_FORM, CORE, DEPARTURES, DESTINATIONS, EDGES, ENTRIES, NEVER_WRITTEN, ROUTES,
-    unless,
+    ABSENCES, BAD_FORM, CORE, COUNTS, DEPARTURES, DESTINATIONS, EDGES, ENTRIES, NEVER_WRITTEN,
+    ROUTES, unless,
 };
 
 /// Why words have not the form of a snapshot: where a reading from the front stops.
@@ -15,6 +15,7 @@ use crate::refusals::{
 pub enum Broken {
     Early,
     Late,
+    Counts,
     Entries,
     Departures,
     Routes,
@@ -26,9 +27,10 @@ pub enum Broken {
     Length,
 }
 
-pub const BREAKS: [(Broken, &str); 11] = [
+pub const BREAKS: [(Broken, &str); 12] = [
     (Broken::Early, "words end early"),
     (Broken::Late, "words go on"),
+    (Broken::Counts, "counts over 32"),
     (Broken::Entries, "entries over 48"),
     (Broken::Departures, "departures over 32"),
     (Broken::Routes, "routes over 8"),
@@ -42,8 +44,10 @@ pub const BREAKS: [(Broken, &str); 11] = [
 
 /// A snapshot's words, cut by its sizes.
 pub struct Snapshot<'a> {
-    /// Local, V, C, L, count.
+    /// Local, V, C, L.
     pub head: &'a [u64],
+    /// Shard and count each.
+    pub counts: Vec<&'a [u64]>,
     pub entries: Vec<Entry<'a>>,
     /// Shard, cut, stamped, until each.
     pub departures: Vec<&'a [u64]>,
@@ -70,7 +74,9 @@ pub struct Entry<'a> {
 impl<'a> Snapshot<'a> {
     pub fn cut(words: &'a [u64]) -> Result<Self, Broken> {
         let mut rest = Rest(words);
-        let head = rest.take(5)?;
+        let head = rest.take(4)?;
+        let k = rest.size(COUNTS as u64, Broken::Counts)?;
+        let counts = rest.take(2 * k)?.chunks_exact(2).collect();
         let n = rest.size(ENTRIES as u64, Broken::Entries)?;
         let m = rest.size(DEPARTURES as u64, Broken::Departures)?;
         let mut entries = Vec::new();
@@ -84,6 +90,7 @@ impl<'a> Snapshot<'a> {
         rest.only_if(rest.0.is_empty(), Broken::Late)?;
         Ok(Self {
             head,
+            counts,
             entries,
             departures,
         })
@@ -103,7 +110,7 @@ impl<'a> Snapshot<'a> {
                 core: self.head[2],
                 leg_entry: self.head[3],
             },
-            rebuilt: self.head[4],
+            counts: self.counts.iter().map(|pair| (pair[0], pair[1])).collect(),
         }
     }
 }

@@ -45,7 +45,7 @@ impl Call {
     }
 }
 
-pub static CALLS: [Call; 35] = [
+pub static CALLS: [Call; 36] = [
     Call::of("new", Some(4), 0, changing::new),
     Call::of("restore", None, 0, changing::restore),
     Call::of("register_committed", None, 0, changing::register_committed),
@@ -89,6 +89,7 @@ pub static CALLS: [Call; 35] = [
     Call::of("issued_by", Some(2), 0, readings::issued_by),
     Call::of("local", Some(0), 0, readings::local),
     Call::of("rebuilt", Some(0), 0, readings::rebuilt),
+    Call::of("rebuilt_by_shard", Some(0), 2, readings::rebuilt_by_shard),
     Call::of("snapshot", Some(0), 1, readings::snapshot),
     Call::of("dump", Some(0), 0, readings::dump),
 ];

@@ -2,7 +2,7 @@
 -- An owed entry takes the shard, any other is rebuilt; that there is room for each was counted before.
 -- Assumes nothing.
 use Rattle.std.specs.Prelude.{Some, None}
-use Prim.Native.Nat.{ℕ, ◌+◌, ◌-◌, ◌*◌, ◌≤◌, ◌<◌, min}
+use Prim.Native.Nat.{ℕ, ◌+◌, ◌-◌, ◌*◌, ◌≤◌, ◌<◌}
 use mathlib.Core.Path.{◌≡◌, refl, sym, ap, ap₂, ◌∙◌, subst}
 use mathlib.Core.Bool.{Bool, true, false, cond, not}
 use mathlib.Core.List.{List, [], ◌∷◌}
@@ -18,16 +18,16 @@ use Rattle.lists.proofs.Loops.{rank_le}
 use Rattle.lists.proofs.Keep.{any-map, keep_same}
 use Rattle.lists.proofs.Order.{length-include}
 use Rattle.lists.proofs.Parts.{every_drop}
-use Rattle.rules.specs.Numbers.{is_word, is_shard, max_count}
+use Rattle.rules.specs.Numbers.{is_word, is_shard}
 use Rattle.rules.specs.Plain as plain
-use Rattle.rules.specs.Plain.{Plain, Terms, transaction_of, with_entries, with_rebuilt}
+use Rattle.rules.specs.Plain.{Plain, Terms, transaction_of, with_entries, with_counts}
 use Rattle.rules.specs.Words.{group_count, record_shard, reach_sizes, record_groups, record_formed, record_timed}
 use Rattle.rules.specs.Entries.{rebuilt, with_departed_by, with_group, rebuilt_of, with_groups, rebuilt_by}
 use Rattle.rules.specs.Outcome.{◌gives◌then◌}
-use Rattle.rules.specs.Calls.{unowed, no_room_for, abandonment_refusal, after_abandonment}
+use Rattle.rules.specs.Calls.{unowed, no_room_for, counted, no_count_for, rebuilds, abandonment_refusal, after_abandonment}
 use Rattle.rules.specs.Good.{Good, GoodEntry, Holds, is_departed_by}
 use Rattle.rules.proofs.Taken.{GoodGroup, groups_good, rebuilt-good}
-use Rattle.rules.proofs.Kept.{passed, tested, groups_count, rebuilt-count, with_entries_lem, included_rows, changes, departed_by-shard, departed_by-good}
+use Rattle.rules.proofs.Kept.{passed, tested, groups_count, rebuilt-count, with_entries_lem, included_rows, changes, counted-good, departed_by-shard, departed_by-good}
 use Rattle.rules.proofs.Stepwise.{on_entries, of_entries, through-entries, tally-entries}
 use Rattle.types.specs.declared.refusal.Refusal.{Refusal}
 use Rattle.types.specs.Refusals.{refusal_number}
@@ -35,28 +35,39 @@ use Rattle.types.specs.Transactions.{number_of}
 use Rattle.entry.specs.declared.Entry.{Entry}
 use Rattle.entry.specs.Entry.{plain_entry, Means}
 use Rattle.store.specs.declared.roster.Roster.{Roster}
+use Rattle.store.specs.declared.counts.Counts.{Counts}
+use Rattle.store.specs.Counts as counts
+use Rattle.store.specs.Counts.{counts_in}
 use Rattle.store.specs.Roster.{keys_of, free_slot, is, below, Inserted}
 use Rattle.words.specs.Taken.{group_at, reach_at}
 use Rattle.words.proofs.Groups.{groups_length, reach_start, reach-next, group_at_lem}
 use Rattle.ledger.specs.declared.Ledger.{Ledger}
-use Rattle.ledger.specs.Contents.{contents, entries_of, Held, with_parts, with_count, storing, slot_at, lying_at, Became}
+use Rattle.ledger.specs.Contents.{contents, entries_of, Held, with_parts, counting, storing, slot_at, lying_at, Became}
 use Rattle.ledger.specs.Meets.{Meets, says, says_no}
 use Rattle.ledger.proofs.Places.{entries-length, found_at, not_found}
-use Rattle.ledger.proofs.Lift.{counted, changed, taken_in}
+use Rattle.ledger.proofs.Lift.{counted as recounted, changed, taken_in}
 use Rattle.ledger.proofs.Meeting.{refuses, passes, answers}
 use Rattle.ledger.proofs.Doing.{Doing, nothing-done, one_done, all_done}
-use Rattle.batches.specs.Abandoned.{transactions, new_to, refusal_by}
+use Rattle.batches.specs.Abandoned.{transactions, new_to, refusal_by, Countable}
+
+-- the number that the roster's keys and the counts give
+abbrev by_parts : Ledger → List ℕ → ℕ
+by_parts l ws = refusal_by (keys_of l.roster) (counts_in l.counts) ws
 
 -- the roster's keys say what is owed
-by_keys : (l : Ledger) → Held l → (ws : List ℕ) → refusal_by (keys_of l.roster) ws ≡ abandonment_refusal ws (contents l)
+by_keys : (l : Ledger) → Held l → (ws : List ℕ) → by_parts l ws ≡ abandonment_refusal ws (contents l)
 unfolding contents
 by_keys l h ws =
     let ts = transactions ws in
     let same : new_to (keys_of l.roster) ts ≡ unowed ts (contents l) =
     keep_same (λ t. not (has self t (keys_of l.roster))) (λ t. not (has transaction_of t (entries_of l))) (set_of ts)
     (λ t _. ap not (ap (has self t) h.keyed ∙ any-map transaction_of (at self t) (entries_of l))) in
-    ap₂ (λ (m n : ℕ). not (record_formed ws) gives 5 then not (record_timed ws) gives 3 then not (is_shard (record_shard ws)) gives 4 then ltb (48 - m) n gives 6 then 0)
-    (ap length h.keyed ∙ length-map (entries_of l) transaction_of) (ap length same)
+    let table : ℕ → ℕ → ℕ → ℕ =
+    λ m n k.
+    not (record_formed ws) gives 5 then not (record_timed ws) gives 3 then not (is_shard (record_shard ws)) gives 4 then ltb (48 - m) n gives 6 then
+    no_count_for (record_shard ws) k (counts_in l.counts) gives 14 then 0 in
+    ap₂ (λ m n. table m n n) (ap length h.keyed ∙ length-map (entries_of l) transaction_of) (ap length same)
+    ∙ ap (table (length (entries_of l)) (length (unowed ts (contents l)))) (sym (rebuilt-count (record_shard ws) (record_groups ws) (entries_of l)))
 
 -- no number
 pub record Passed (ws : List ℕ) (p : Plain) : Type 0 where
@@ -64,6 +75,7 @@ pub record Passed (ws : List ℕ) (p : Plain) : Type 0 where
   pub timed : record_timed ws ≡ true
   pub shard : is_shard (record_shard ws) ≡ true
   pub room : length (with_groups (record_shard ws) (record_groups ws) p.entries) ≤ 48
+  pub count : no_count_for (record_shard ws) (rebuilds ws p) p.counts ≡ false
 
 passing : (ws : List ℕ) (p : Plain) → Good p → abandonment_refusal ws p ≡ 0 → Passed ws p
 passing ws p g e =
@@ -71,19 +83,21 @@ passing ws p g e =
     let t = tested (record_timed ws) 2 _ f.1 in
     let s = tested (is_shard (record_shard ws)) 3 _ t.1 in
     let gs = record_groups ws in
-    let room = ltb-false (48 - length p.entries) (length (unowed (transactions ws) p)) (passed (no_room_for (transactions ws) p) 5 0 s.1).0 in
+    let l = passed (no_room_for (transactions ws) p) 5 _ s.1 in
+    let room = ltb-false (48 - length p.entries) (length (unowed (transactions ws) p)) l.0 in
     record {
       formed = f.0;
       timed = t.0;
       shard = s.0;
       room = omega (arith, room, g.entries.count, groups_count (record_shard ws) gs p.entries, rebuilt-count (record_shard ws) gs p.entries);
+      count = (passed (no_count_for (record_shard ws) (rebuilds ws p) p.counts) 13 0 l.1).0;
     }
 
 -- the words as they were handed in and as they were read are the same
-pub passes_by : (l : Ledger) (ws read : List ℕ) → Held l → 0 ≡ refusal_by (keys_of l.roster) ws → read ≡ ws → Passed read (contents l)
+pub passes_by : (l : Ledger) (ws read : List ℕ) → Held l → 0 ≡ by_parts l ws → read ≡ ws → Passed read (contents l)
 passes_by l ws read h q same = subst (λ y. Passed y (contents l)) (sym same) (passing ws (contents l) h.good (sym (by_keys l h ws) ∙ sym q))
 
-pub turned_away : (r : Refusal) (l : Ledger) (ws : List ℕ) → Held l → refusal_number r ≡ refusal_by (keys_of l.roster) ws → Meets (after_abandonment ws (contents l)) [] [] (says_no r l)
+pub turned_away : (r : Refusal) (l : Ledger) (ws : List ℕ) → Held l → refusal_number r ≡ by_parts l ws → Meets (after_abandonment ws (contents l)) [] [] (says_no r l)
 unfolding after_abandonment
 turned_away r l ws h e = refuses r l [] (abandonment_refusal ws (contents l)) _ h (sym (by_keys l h ws) ∙ sym e)
 
@@ -134,28 +148,34 @@ left_to_do l₀ ws l start n i v =
     sym (through-entries (λ h. with_group (record_shard ws)) (drop i (record_groups ws)) (contents l))
     ∙ v.doing.rest.state ∙ through-entries (λ h. with_group (record_shard ws)) (record_groups ws) (contents l₀)
 
-same_count : (l : Ledger) (p : Plain) (es : List plain.Entry) → contents l ≡ with_entries es p → l.rebuilt ≡ p.rebuilt
+-- What was rebuilt is counted.
+pub recount : (l : Ledger) (shard n : ℕ) → Countable shard n l → (d : Counts) → counts.Holds (counted shard n (counts_in l.counts)) d → (z : length l.entries ≡ 48) →
+    Became (with_counts (counted shard n (contents l).counts) (contents l)) (counting l d z)
 unfolding contents
-same_count l p es e = ap (λ (p : Plain). p.rebuilt) e
+recount l shard n c d q z =
+    recounted l c.held (counted shard n (counts_in l.counts)) d q (counted-good shard n (counts_in l.counts) c.shard_is c.room c.held.good.counts) z
 
--- after the last
-pub rebuilt-all : (l₀ : Ledger) (ws : List ℕ) (l : Ledger) (start n i sum : ℕ) → Held l₀ → 0 ≡ refusal_by (keys_of l₀.roster) ws → record_formed ws ≡ true → Rebuilding l₀ ws l start n i →
-    group_count ws ≤ i → sum ≡ min (l.rebuilt + n) max_count → (given : List ℕ) → ws ≡ given → (z : length l.entries ≡ 48) →
-    Meets (after_abandonment given (contents l₀)) [] [] (says n (with_count l sum z))
-unfolding after_abandonment
-rebuilt-all l₀ ws l start n i sum held none f v h q given same z =
-    let e : abandonment_refusal ws (contents l₀) ≡ 0 = sym (by_keys l₀ held ws) ∙ sym none in
-    let gs = record_groups ws in
-    let p = contents l₀ in
-    let d = all_done _ _ gs l₀ l n i v.doing (omega (arith, groups_length ws f)) in
-    let es : contents l ≡ with_entries (with_groups (record_shard ws) gs p.entries) p = d.0.holds ∙ through-entries (λ h. with_group (record_shard ws)) gs p in
-    let many : n ≡ rebuilt_by (record_shard ws) gs p.entries = d.1 ∙ tally-entries (λ h. with_group (record_shard ws)) (λ h. rebuilt_of) gs p in
-    let sums : sum ≡ min (p.rebuilt + n) max_count = q ∙ ap (λ k. min (k + n) max_count) (same_count l p _ es) in
-    let b = counted l v.doing.held sum (omega arith) z in
-    rw (← same)
-    (passes (abandonment_refusal ws p) p _ [] [] (says n (with_count l sum z)) e
-    (rw (sym many)
-    (answers n (with_count l sum z) _ _ (record { held = b.held; holds = b.holds ∙ ap₂ with_rebuilt sums es }) refl)))
+-- After the last group the ledger in hand has the entries that all groups leave, beside what the first has; n is what they rebuilt.
+module _ (l₀ : Ledger) (ws : List ℕ) (l : Ledger) (start n i : ℕ) (p : Passed ws (contents l₀)) (v : Rebuilding l₀ ws l start n i) (last : group_count ws ≤ i) where
+  abbrev all : (contents l ≡ with_entries (with_groups (record_shard ws) (record_groups ws) (contents l₀).entries) (contents l₀)) × (n ≡ rebuilds ws (contents l₀))
+  all =
+      let d = all_done _ _ (record_groups ws) l₀ l n i v.doing (omega (arith, last, groups_length ws p.formed)) in (
+        d.0.holds ∙ through-entries (λ h. with_group (record_shard ws)) (record_groups ws) (contents l₀),
+        d.1 ∙ tally-entries (λ h. with_group (record_shard ws)) (λ h. rebuilt_of) (record_groups ws) (contents l₀),
+      )
+
+  same_counts : (contents l).counts ≡ (contents l₀).counts
+  same_counts = ap (λ (q : Plain). q.counts) all.0
+
+  pub countable : Countable (record_shard ws) n l
+  countable = record { held = v.doing.held; shard_is = p.shard; room = rw (all.1, same_counts) p.count }
+
+  pub rebuilt-all : (r : Ledger) → Became (with_counts (counted (record_shard ws) n (contents l).counts) (contents l)) r → Held l₀ → 0 ≡ by_parts l₀ ws →
+      Meets (after_abandonment ws (contents l₀)) [] [] (says n r)
+  unfolding after_abandonment
+  rebuilt-all r b held none =
+      passes (abandonment_refusal ws (contents l₀)) (contents l₀) _ [] [] (says n r) (sym (by_keys l₀ held ws) ∙ sym none)
+      (rw (sym all.1) (answers n r _ _ (record { held = b.held; holds = b.holds ∙ ap₂ with_counts (ap (counted (record_shard ws) n) same_counts) all.0 }) refl))
 
 -- a turn of the loop: the group's transaction t was read, and the ledger after it
 module _ (l₀ : Ledger) (ws : List ℕ) (p : Passed ws (contents l₀)) (l : Ledger) (start n i : ℕ) (v : Rebuilding l₀ ws l start n i) (h : i < group_count ws)
@@ -215,7 +235,7 @@ module _ (l₀ : Ledger) (ws : List ℕ) (p : Passed ws (contents l₀)) (l : Le
 
   pub group_new : Every (Holds is_word) ws → (k : ℕ) (r : Roster) → place (is t) 0 (keys_of l.roster) ≡ None → k ≡ rank (below t) (keys_of l.roster) → Inserted l.roster k t r →
       (x : Entry) → Means (rebuilt shard g) x → (z : length (set l.entries (free_slot l.roster) x) ≡ 48) →
-      Rebuilding l₀ ws (with_parts l l.rebuilt r (set l.entries (free_slot l.roster) x) l.issuers l.departures z) (start + reach_at ws i) (n + 1) (i + 1)
+      Rebuilding l₀ ws (with_parts l l.counts r (set l.entries (free_slot l.roster) x) l.issuers l.departures z) (start + reach_at ws i) (n + 1) (i + 1)
   group_new words k r e q o x m z =
       let goods = every_drop GoodGroup i (record_groups ws) (groups_good ws words p.formed p.timed) in
       let good : GoodGroup g = (rw more at goods).0 in
@@ -224,4 +244,4 @@ module _ (l₀ : Ledger) (ws : List ℕ) (p : Passed ws (contents l₀)) (l : Le
       let b = taken_in l v.doing.held k x r l.issuers (rw same e) (rw same q) (group_room e) entry.terms.transaction (rw same o) (rw m.plain v.doing.held.issuers)
       (including_good (contents l) (plain_entry x) entry (room-left e) v.doing.held.good) z in
       next false _ (unknown e)
-      (subst (λ y. Became (with_entries (include transaction_of y (contents l).entries) (contents l)) (with_parts l l.rebuilt r (set l.entries (free_slot l.roster) x) l.issuers l.departures z)) m.plain b)
+      (subst (λ y. Became (with_entries (include transaction_of y (contents l).entries) (contents l)) (with_parts l l.counts r (set l.entries (free_slot l.roster) x) l.issuers l.departures z)) m.plain b)

@@ -180,7 +180,7 @@ module _ (l₀ : Ledger) (ws : List ℕ) (l : Ledger) (released i : ℕ) (v : Re
         same _ released (next resolve _ (rules resolve (ap plain_ruling q)) (changed l v.held tx k y d (with_part remainder) e m.plain (λ z. refl) good u))
 
     pub line-release : s ≡ Release → (r : Roster) (ix : Issuers) → Removed l.roster k r → issuers.Holds (keep (is_not tx) (pairs_in l.issuers)) ix →
-        (z : length l.entries ≡ 48) → Resolving l₀ ws (with_parts l l.rebuilt r l.entries ix l.departures z) (released + 1) (i + 1)
+        (z : length l.entries ≡ 48) → Resolving l₀ ws (with_parts l l.counts r l.entries ix l.departures z) (released + 1) (i + 1)
     unfolding after_forget
     line-release q r ix c w z =
         next release _ (rules release (ap plain_ruling q)) (let_go l v.held tx k r ix e c w (step-good (forget tx) tt (contents l) v.held.good) z)

@@ -1,19 +1,21 @@
 // Abandonment record: what a shard's abandonment names, and what it brings back.
 ghost use Rattle.std.specs.Prelude.{◌≡◌, [], ◌≤◌, length, take, IfOk};
 ghost use Rattle.lists.specs.Lists.{has, self as itself};
-ghost use Rattle.rules.specs.Calls.{after_abandonment};
+ghost use Rattle.rules.specs.Plain.{with_counts};
+ghost use Rattle.rules.specs.Calls.{counted, after_abandonment};
 ghost use Rattle.rules.specs.Words.{group_count};
+ghost use Rattle.store.specs.Counts.{counts_in};
 ghost use Rattle.store.specs.Roster.{keys_of};
-ghost use Rattle.ledger.specs.Contents.{Held, contents};
+ghost use Rattle.ledger.specs.Contents.{Held, Became, contents};
 ghost use Rattle.ledger.specs.Meets.{Meets, saying};
 ghost use Rattle.types.specs.Refusals.{refused_in};
-ghost use Rattle.batches.specs.Abandoned.{transactions, new_to, refusal_by};
+ghost use Rattle.batches.specs.Abandoned.{transactions, new_to, refusal_by, Countable};
 ghost use Rattle.types.specs.Transactions.{number_of};
 
 use ledger::{Ledger, Said};
 use store::roster::Roster;
 use types::refusal::Refusal;
-use types::{Transaction, is_shard};
+use types::{Shard, Transaction, is_shard};
 use words::record::Record;
 
 // Whether one of the first n groups is of the transaction.
@@ -44,8 +46,8 @@ fn count_new(roster: &Roster, groups: Record<'_>) -> usize
 }
 
 // The words of a record and the room that they ask for, by the table.
-fn check<'a>(roster: &Roster, words: &'a [u64]) -> Result<Record<'a>, Refusal>
-    ensures refused { refused_in result ≡ refusal_by (keys_of roster.now) words.now }
+fn check<'a>(ledger: &Ledger, words: &'a [u64]) -> Result<Record<'a>, Refusal>
+    ensures refused { refused_in result ≡ refusal_by (keys_of ledger.now.roster) (counts_in ledger.now.counts) words.now }
     ensures read { IfOk result (λ r. r.words.now ≡ words.now) }
 {
     let Some(groups) = Record::read(words) else {
@@ -58,21 +60,32 @@ fn check<'a>(roster: &Roster, words: &'a [u64]) -> Result<Record<'a>, Refusal>
     if !is_shard(shard.0) {
         return Err(Refusal::NoShard);
     }
-    let new = count_new(roster, groups);
-    let is_full = 48 - roster.len < new;
+    let new = count_new(&ledger.roster, groups);
+    let is_full = 48 - ledger.roster.len < new;
     if is_full {
         return Err(Refusal::EntriesFull);
+    }
+    if ledger.counts.is_full_for(shard, new as u64) {
+        return Err(Refusal::CountsFull);
     }
     Ok(groups)
 }
 
+// What a record rebuilt counted with its shard.
+fn count_rebuilt(ledger: &mut Ledger, shard: Shard, n: u64)
+    requires { Countable shard.0 n ledger.old }
+    ensures { Became (with_counts (counted shard.0 n (contents ledger.old).counts) (contents ledger.old)) ledger.new }
+{
+    ledger.counts.add(shard, n);
+}
+
 // Notes what a record abandons, and answers how many entries were rebuilt. Group by group: an owed entry takes the shard's name, any
-// other is rebuilt and put in. The running count stops at the largest word.
+// other is rebuilt and put in. What was rebuilt is counted with the shard.
 pub fn record_abandonment(ledger: &mut Ledger, words: &[u64]) -> Said
     requires { Held ledger.old }
     ensures { Meets (after_abandonment words.now (contents ledger.old)) [] [] (saying result ledger.new) }
 {
-    let groups = check(&ledger.roster, words)?;
+    let groups = check(ledger, words)?;
     let shard = groups.shard();
     let mut at = groups.reaches_at();
     let mut rebuilt: u64 = 0;
@@ -94,6 +107,6 @@ pub fn record_abandonment(ledger: &mut Ledger, words: &[u64]) -> Said
         }
         at += groups.reach_at(i);
     }
-    ledger.rebuilt = ledger.rebuilt.saturating_add(rebuilt);
+    count_rebuilt(ledger, shard, rebuilt);
     Ok([rebuilt, 0, 0])
 }

@@ -83,7 +83,7 @@ module _ (l : Ledger) (x : Entry) (e : Enters x l) where
       omega (arith, ap length pairs, index-size more e.good)
 
   pub enters_in : (k : ℕ) → k ≡ rank (below key) (keys_of l.roster) → (b : Roster) → Inserted l.roster k key b → (y : Issuers) → issuers.Holds (with_pairs l.local.0 x l.issuers) y →
-      (s : length (set l.entries (free_slot l.roster) x) ≡ 48) → Became more (with_parts l l.rebuilt b (set l.entries (free_slot l.roster) x) y l.departures s)
+      (s : length (set l.entries (free_slot l.roster) x) ≡ 48) → Became more (with_parts l l.counts b (set l.entries (free_slot l.roster) x) y l.departures s)
   enters_in k v b op y i s =
       taken_in l e.held k x b y missed v free word op
       (record { pairs = i.pairs ∙ ap (include_all pair_key (pairs_of l.local.0 (plain_entry x))) e.held.issuers.pairs }) e.good s

@@ -43,12 +43,12 @@ module _ (l : Ledger) (h : Held l) (shard : ℕ) where
     stamp-refused r e = refuses r l [] (stamp_refusal shard until) _ h (sym e)
 
     pub stamp-known : stamp_refusal shard until ≡ 0 → (x : Departures) → departures.Holds (change shard_of shard (stamped until) (on_file l.departures)) x →
-        (z : length l.entries ≡ 48) → Meets (after_stamp shard until (contents l)) [] [] (says 0 (with_parts l l.rebuilt l.roster l.entries l.issuers x z))
+        (z : length l.entries ≡ 48) → Meets (after_stamp shard until (contents l)) [] [] (says 0 (with_parts l l.counts l.roster l.entries l.issuers x z))
     unfolding after_stamp contents
     stamp-known none x f z =
         let o = done [] (with_departures (change shard_of shard (stamped until) (contents l).departures) (contents l)) in
-        passes (stamp_refusal shard until) (contents l) o [] [] (says 0 (with_parts l l.rebuilt l.roster l.entries l.issuers x z)) none
-        (silent (with_parts l l.rebuilt l.roster l.entries l.issuers x z) _ _ (filed l h _ x f (good-after (stamp_refusal shard until) (contents l) o none (step-good (stamp shard until) tt (contents l) h.good)) z) refl)
+        passes (stamp_refusal shard until) (contents l) o [] [] (says 0 (with_parts l l.counts l.roster l.entries l.issuers x z)) none
+        (silent (with_parts l l.counts l.roster l.entries l.issuers x z) _ _ (filed l h _ x f (good-after (stamp_refusal shard until) (contents l) o none (step-good (stamp shard until) tt (contents l) h.good)) z) refl)
 
   -- Terminal.
   module _ (cut is_stamped until : ℕ) where
@@ -117,11 +117,11 @@ module _ (l : Ledger) (h : Held l) (shard : ℕ) where
           go false g = omega (arith, g.departures.count, length-change_if (at shard_of shard) (stamped until) (departed shard cut (contents l).departures))
 
       pub terminal_filed : (x : Departures) → departures.Holds (filed_as shard cut is_stamped until (on_file l.departures)) x →
-          (z : length l.entries ≡ 48) → Meets (after_terminal shard cut is_stamped until (contents l)) [] [] (says 0 (with_parts l l.rebuilt l.roster l.entries l.issuers x z))
+          (z : length l.entries ≡ 48) → Meets (after_terminal shard cut is_stamped until (contents l)) [] [] (says 0 (with_parts l l.counts l.roster l.entries l.issuers x z))
       unfolding after_terminal contents
       terminal_filed x f z =
-          passes (terminal_refusal shard cut is_stamped until (contents l)) (contents l) (done [] _) [] [] (says 0 (with_parts l l.rebuilt l.roster l.entries l.issuers x z)) none
-          (silent (with_parts l l.rebuilt l.roster l.entries l.issuers x z) _ _ (filed l h _ x f good z) refl)
+          passes (terminal_refusal shard cut is_stamped until (contents l)) (contents l) (done [] _) [] [] (says 0 (with_parts l l.counts l.roster l.entries l.issuers x z)) none
+          (silent (with_parts l l.counts l.roster l.entries l.issuers x z) _ _ (filed l h _ x f good z) refl)
 
 -- what is filed by the stamp is filed by the words that say it
 pub filed-words : (shard cut is_stamped : ℕ) (until : Time) (ds : List plain.Departure) → filed_with shard cut (stamp_in is_stamped until) ds ≡ filed_as shard cut is_stamped until.0 ds

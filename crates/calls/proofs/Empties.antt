@@ -17,6 +17,7 @@ use Rattle.types.specs.Refusals.{refusal_number}
 use Rattle.store.specs.Roster as roster
 use Rattle.store.specs.Issuers as issuers
 use Rattle.store.specs.Departures as departures
+use Rattle.store.specs.Counts as counts
 use Rattle.ledger.specs.declared.Ledger.{Ledger}
 use Rattle.ledger.specs.Contents.{contents, Held}
 use Rattle.ledger.specs.Meets.{Meets, says, says_no}
@@ -25,9 +26,9 @@ use Rattle.calls.specs.Fresh.{Fresh}
 
 -- the parts of an empty ledger make one
 pub fresh : (l : Ledger) → roster.Fresh l.roster → issuers.Holds [] l.issuers → departures.Holds [] l.departures →
-    l.rebuilt ≡ 0 → Fresh l.local.0 l.validity l.core_span l.leg_span l
+    counts.Holds [] l.counts → Fresh l.local.0 l.validity l.core_span l.leg_span l
 unfolding contents
-fresh l r i d z = record { roster = r; issuers = i; departures = d; contents = rw (r, d.file, z) }
+fresh l r i d n = record { roster = r; issuers = i; departures = d; contents = rw (r, d.file, n.counts) }
 
 fresh_held : (local v c s : ℕ) (l : Ledger) → Fresh local v c s l → Good (empty local v c s) → Held l
 unfolding contents index

@@ -64,11 +64,11 @@ module _ (l : Ledger) (h : Held l) (t : ℕ) where
 
     pub released-passing : (k : ℕ) (d : Entry) → place (is t) 0 (keys_of l.roster) ≡ Some k → q (plain_entry (lying_at l k d)) ≡ true →
         (r : Roster) (x : Issuers) → Removed l.roster k r → issuers.Holds (keep (is_not t) (pairs_in l.issuers)) x → (s : length l.entries ≡ 48) →
-        Meets (released q n t (contents l)) [] [] (says n (with_parts l l.rebuilt r l.entries x l.departures s))
+        Meets (released q n t (contents l)) [] [] (says n (with_parts l l.counts r l.entries x l.departures s))
     unfolding after_forget
     released-passing k d e w r x c i s =
         let b = let_go l h t k r x e c i (step-good (forget t) tt (contents l) h.good) s in
-        rw ((found_at l h t k e).got d, w) (answers n (with_parts l l.rebuilt r l.entries x l.departures s) _ _ b refl)
+        rw ((found_at l h t k e).got d, w) (answers n (with_parts l l.counts r l.entries x l.departures s) _ _ b refl)
 
   -- forget asks nothing of the entry, and fated that it is a leg
   pub forget-is : released (λ e. true) 1 t (contents l) ≡ after_forget t (contents l)

@@ -8,6 +8,7 @@ ghost use Rattle.calls.specs.Fresh.{Fresh};
 
 use entry::Entry;
 use ledger::{Done, Ledger};
+use store::counts::Counts;
 use store::departures::Departures;
 use store::issuers::Issuers;
 use store::roster::Roster;
@@ -24,11 +25,11 @@ fn empty(local: Shard, validity: u64, core_span: u64, leg_span: u64) -> Ledger
         validity,
         core_span,
         leg_span,
-        rebuilt: 0,
         roster: Roster::new(),
         entries: [e; 48],
         issuers: Issuers::new(),
         departures: Departures::new(),
+        counts: Counts::new(),
     }
 }
 

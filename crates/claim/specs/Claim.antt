@@ -9,6 +9,7 @@ use Rattle.rules.specs.Prune.{report_words, fallen, reports, pruned, prunes, all
 use Rattle.rules.specs.Calls.{Call, run}
 use Rattle.store.specs.Issuers as issuers
 use Rattle.store.specs.Issuers.{pairs_in}
+use Rattle.store.specs.Counts.{counts_in}
 use Rattle.ledger.specs.declared.Ledger.{Ledger}
 use Rattle.ledger.specs.Contents.{contents, Held}
 use Rattle.ledger.specs.Meets.{written}
@@ -25,8 +26,8 @@ pub record Lent : Type 0 where
 abbrev pub lent : List ℕ → List ℕ → Lent
 lent was is = record { was = was; is = is }
 
--- 'local, spans, entries, index, departures and count equal the plain ledger's in every field', of a ledger that calls hand back: all but the
--- index is in the contents; the index holds the pairs that the plain ledger's is, and these are just the record and owed transaction that
+-- 'local, spans, entries, index, departures and count equal the plain ledger's in every field', each of the counts that stand in place of the one, of
+-- a ledger that calls hand back: all but the index is in the contents; the index holds the pairs that the plain ledger's is, and these are just the record and owed transaction that
 -- lists it. Shut out: the right entries under other keys in the roster (`held`), an entry that differs where no answer shows it (`fields`), an
 -- index that lacks a pair or has one too many (`pairs`, `named`).
 pub record Equals (p : Plain) (l : Ledger) : Type 0 where
@@ -63,12 +64,12 @@ pub record InTurn (p : Plain) (clocks : List ℕ) (k : ℕ) (report_list count_l
 pub record AsOne (p : Plain) (clocks : List ℕ) (last : ℕ) (report_list count_list : Lent) (before : Ledger) (r : PrunedAll) : Type 0 where
   -- 'after the prunes, those of the plain ledger pruned once'; shut out: a departure dropped on the way that the last prune would have kept
   pub left : Equals (pruned last p) r.after
-  -- 'with local, spans and count unchanged'; shut out: a prune that starts the running count again
+  -- 'with local, spans and counts unchanged'; shut out: a prune that starts a count again
   pub local : r.after.local.0 ≡ before.local.0
   pub validity : r.after.validity ≡ before.validity
   pub core_span : r.after.core_span ≡ before.core_span
   pub leg_span : r.after.leg_span ≡ before.leg_span
-  pub rebuilt : r.after.rebuilt ≡ before.rebuilt
+  pub counts : counts_in r.after.counts ≡ counts_in before.counts
   -- 'the reports, put in transaction order, equal the one prune's word for word'; shut out: a report lost or doubled, or with another charge
   pub told : in_order (reports_in (take (report_size * r.written) report_list.is)) ≡ reports last p
   pub words : concat_map report_words (in_order (reports_in (take (report_size * r.written) report_list.is))) ≡ concat_map report_words (reports last p)

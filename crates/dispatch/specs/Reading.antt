@@ -1,7 +1,7 @@
 -- The readings by number: which reading a kind is, on which of its words, with a lent list of which length.
 use Rattle.std.specs.Prelude.{ℕ, cond, List, eqb}
 use Rattle.rules.specs.Words.{word}
-use Rattle.rules.specs.Readings.{Reading, ask_questions, open_at, answers, list_past_deadline, list_issuers, list_claimants, list_counterparts, list_unstamped, reach, abandonment, covered, departed, executed, reaches_beyond, issued_by, local, rebuilt, take_snapshot}
+use Rattle.rules.specs.Readings.{Reading, ask_questions, open_at, answers, list_past_deadline, list_issuers, list_claimants, list_counterparts, list_unstamped, reach, abandonment, covered, departed, executed, reaches_beyond, issued_by, local, rebuilt, take_snapshot, rebuilt_by_shard}
 
 -- words that are missing count as 0
 abbrev pub question_open : List ℕ → Reading
@@ -10,7 +10,7 @@ question_open ws = open_at (word 0 ws) (word 1 ws) (word 2 ws) (word 3 ws) (word
 abbrev pub question_answered : List ℕ → Reading
 question_answered ws = answers (word 0 ws) (word 1 ws) (word 2 ws) (word 3 ws) (word 4 ws) (word 5 ws) (word 6 ws)
 
--- the lookups; 17 and every other number is the running count
+-- the lookups; 17 and every other number is the sum of the counts
 unfoldable pub lookup_of : ℕ → List ℕ → Reading
 lookup_of kind ws =
     cond (eqb kind 2) (question_open ws)
@@ -24,7 +24,7 @@ lookup_of kind ws =
     (cond (eqb kind 16) local
     rebuilt))))))))
 
--- the readings that take a list, the snapshot the last of them, and the lookups
+-- the readings that take a list, the snapshot and the counts the last of them, and the lookups
 unfoldable pub reading_of : ℕ → List ℕ → ℕ → Reading
 reading_of kind ws room =
     cond (eqb kind 1) (ask_questions room)
@@ -35,4 +35,5 @@ reading_of kind ws room =
     (cond (eqb kind 8) (list_unstamped room)
     (cond (eqb kind 9) (reach (word 0 ws) room)
     (cond (eqb kind 18) (take_snapshot room)
-    (lookup_of kind ws))))))))
+    (cond (eqb kind 19) (rebuilt_by_shard room)
+    (lookup_of kind ws)))))))))

@@ -12,7 +12,7 @@ use ledger::Ledger;
 use lists::slices::word_at;
 use readings::lookups;
 use readings::lookups::Question;
-use shard_lists::{claimants, counterparts, reach, unstamped_departures};
+use shard_lists::{claimants, counterparts, reach, rebuilt_by_shard, unstamped_departures};
 use snapshots::write::snapshot;
 use types::refusal::Refusal;
 use types::{RecordKey, Shard, Time, Transaction};
@@ -36,6 +36,7 @@ pub fn ask(ledger: &Ledger, kind: u64, words: &[u64], lent: &mut [u64]) -> Resul
         8 => unstamped_departures(ledger, lent),
         9 => reach(ledger, tx, lent),
         18 => snapshot(ledger, lent),
+        19 => rebuilt_by_shard(ledger, lent),
         _ => look_up(ledger, kind, words),
     }
 }

@@ -15,6 +15,7 @@ use Rattle.lists.specs.Lists.{Every}
 use Rattle.lists.proofs.Keep.{every_more}
 use Rattle.rules.specs.Numbers.{is_word}
 use Rattle.rules.specs.Good.{Good, Holds}
+use Rattle.rules.specs.Widths.{snapshot_room}
 use Rattle.rules.specs.Outcome.{Outcome, done, unless, ◌gives◌then◌}
 use Rattle.rules.specs.Calls.{not_made}
 use Rattle.rules.specs.Snapshot.{ledger_in, snapshot_formed, snapshot_refusal, snapshot_words, restoring}
@@ -41,23 +42,23 @@ unfolding restoring
 by_form ws e = rw e refl
 
 -- so many of them fit in a list for the longest snapshot
-pub words_few : (n : ℕ) → (words_read n ≤ 5895) × (8 * words_read n ≤ n)
-words_few n = go (eqb (n % 8) 0) (leb (n / 8) 5895) refl refl
+pub words_few : (n : ℕ) → (words_read n ≤ snapshot_room) × (8 * words_read n ≤ n)
+words_few n = go (eqb (n % 8) 0) (leb (n / 8) snapshot_room) refl refl
   where
-    go : (b c : Bool) → eqb (n % 8) 0 ≡ b → leb (n / 8) 5895 ≡ c → (cond (b && c) (n / 8) 0 ≤ 5895) × (8 * cond (b && c) (n / 8) 0 ≤ n)
-    go true true e f = (leb-true (n / 8) 5895 f, omega arith)
+    go : (b c : Bool) → eqb (n % 8) 0 ≡ b → leb (n / 8) snapshot_room ≡ c → (cond (b && c) (n / 8) 0 ≤ snapshot_room) × (8 * cond (b && c) (n / 8) 0 ≤ n)
+    go true true e f = (leb-true (n / 8) snapshot_room f, omega arith)
     go true false e f = (omega arith, omega arith)
     go false c e f = (omega arith, omega arith)
 
 pub restored_same : (bytes : List ℕ) → restoring (words_in (take (8 * words_read (length bytes)) bytes)) ≡ restoring_bytes bytes
 unfolding restoring_bytes
-restored_same bytes = go (are_words bytes) (leb (length bytes / 8) 5895) refl refl
+restored_same bytes = go (are_words bytes) (leb (length bytes / 8) snapshot_room) refl refl
   where
-    go : (b c : Bool) → are_words bytes ≡ b → leb (length bytes / 8) 5895 ≡ c →
+    go : (b c : Bool) → are_words bytes ≡ b → leb (length bytes / 8) snapshot_room ≡ c →
         restoring (words_in (take (8 * cond (b && c) (length bytes / 8) 0) bytes)) ≡ unless (not b gives 12 then 0) not_made (restoring (words_in bytes))
     go true true e f = ap (λ l. restoring (words_in l)) (take_all (8 * (length bytes / 8)) bytes (omega (arith, eqb-true (length bytes % 8) 0 e)))
     go true false e f =
-        no_words ∙ sym (by_form (words_in bytes) (too_many (words_in bytes) (omega (arith, length_words bytes, leb-false (length bytes / 8) 5895 f))))
+        no_words ∙ sym (by_form (words_in bytes) (too_many (words_in bytes) (omega (arith, length_words bytes, leb-false (length bytes / 8) snapshot_room f))))
     go false c e f = no_words
 
 -- What is accepted is the writing of the ledger that it is read as.

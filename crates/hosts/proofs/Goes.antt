@@ -10,7 +10,7 @@ use Rattle.rules.specs.Plain.{Plain}
 use Rattle.rules.specs.Good.{Good}
 use Rattle.rules.specs.Snapshot.{snapshot_words}
 use Rattle.types.specs.declared.refusal.Refusal.{Refusal}
-use Rattle.types.specs.declared.refusal.Refusal.TheVariants.{NoLocal, NoSpan, NoTime, NoShard, Malformed, EntriesFull, AbsencesFull, DeparturesFull, ListShort, UnknownKind, NoBundle, NoSnapshot, NeverWritten}
+use Rattle.types.specs.declared.refusal.Refusal.TheVariants.{NoLocal, NoSpan, NoTime, NoShard, Malformed, EntriesFull, AbsencesFull, DeparturesFull, ListShort, UnknownKind, NoBundle, NoSnapshot, NeverWritten, CountsFull}
 use Rattle.types.specs.Refusals.{refusal_number}
 use Rattle.ledger.specs.Meets.{written}
 use Rattle.word_bytes.specs.Bytes.{bytes_of}
@@ -33,6 +33,7 @@ is_refused UnknownKind = omega arith
 is_refused NoBundle = omega arith
 is_refused NoSnapshot = omega arith
 is_refused NeverWritten = omega arith
+is_refused CountsFull = omega arith
 
 -- its number alone
 pub turned_down : (n r : ℕ) (p : Plain) (told : List ℕ) (a b : ℕ) (out reports : List ℕ) → 1 ≤ n → r ≡ n → Gives (handing n p told a b) out out reports reports r

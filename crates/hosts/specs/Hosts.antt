@@ -4,7 +4,7 @@ use Rattle.std.specs.Prelude.{ℕ, zero, suc, ◌≡◌, ◌≤◌, cond, not, �
 use Rattle.std.specs.Prelude.{Result, Ok, Err}
 use Rattle.word_bytes.specs.Bytes.{bytes_of, are_words, words_in}
 use Rattle.rules.specs.Plain.{Plain}
-use Rattle.rules.specs.Widths.{report_room}
+use Rattle.rules.specs.Widths.{report_room, snapshot_room}
 use Rattle.rules.specs.Outcome.{Outcome, done, unless, if_done, ◌gives◌then◌, too_short}
 use Rattle.rules.specs.Calls.{not_made, making, step, prune}
 use Rattle.rules.specs.Snapshot.{snapshot_words, restoring}
@@ -13,10 +13,6 @@ use Rattle.types.specs.Refusals.{refused_in}
 use Rattle.ledger.specs.declared.Ledger.{Ledger}
 use Rattle.ledger.specs.Contents.{contents, Held}
 use Rattle.ledger.specs.Meets.{written}
-
--- the words of the longest snapshot: the numbers in front, the lengths of 48 entries, these with all that an entry may have, 32 departures
-abbrev pub snapshot_room : ℕ
-snapshot_room = 5895
 
 -- A ledger that comes in. 12, ahead of what the words are refused by: bytes that are no whole words are no snapshot.
 unfoldable pub restoring_bytes : List ℕ → Outcome

@@ -21,13 +21,15 @@ empty_bytes =
     ∷ 0 ∷ 0 ∷ 0 ∷ 0 ∷ 0 ∷ 0 ∷ 0 ∷ 0
     ∷ []
 
--- a ledger with an entry that a record of shard 5 names, and a departure of shard 6
+-- a ledger with an entry that a record of shard 5 rebuilt, that shard's count, and a departure of shard 6
 abbrev stored_bytes : List ℕ
 stored_bytes =
     4 ∷ 0 ∷ 0 ∷ 0 ∷ 0 ∷ 0 ∷ 0 ∷ 0
     ∷ 100 ∷ 0 ∷ 0 ∷ 0 ∷ 0 ∷ 0 ∷ 0 ∷ 0
     ∷ 50 ∷ 0 ∷ 0 ∷ 0 ∷ 0 ∷ 0 ∷ 0 ∷ 0
     ∷ 200 ∷ 0 ∷ 0 ∷ 0 ∷ 0 ∷ 0 ∷ 0 ∷ 0
+    ∷ 1 ∷ 0 ∷ 0 ∷ 0 ∷ 0 ∷ 0 ∷ 0 ∷ 0
+    ∷ 5 ∷ 0 ∷ 0 ∷ 0 ∷ 0 ∷ 0 ∷ 0 ∷ 0
     ∷ 1 ∷ 0 ∷ 0 ∷ 0 ∷ 0 ∷ 0 ∷ 0 ∷ 0
     ∷ 1 ∷ 0 ∷ 0 ∷ 0 ∷ 0 ∷ 0 ∷ 0 ∷ 0
     ∷ 1 ∷ 0 ∷ 0 ∷ 0 ∷ 0 ∷ 0 ∷ 0 ∷ 0
@@ -54,13 +56,15 @@ stored_bytes =
     ∷ 30 ∷ 0 ∷ 0 ∷ 0 ∷ 0 ∷ 0 ∷ 0 ∷ 0
     ∷ []
 
--- what is left of it after a prune, and what the prune tells: one report, one fallen, and of transaction 9 that it was covered and its charge, 7
+-- what is left of it after a prune, the count, and what the prune tells: one report, one fallen, and of transaction 9 that it was covered and its charge, 7
 abbrev left_bytes : List ℕ
 left_bytes =
     4 ∷ 0 ∷ 0 ∷ 0 ∷ 0 ∷ 0 ∷ 0 ∷ 0
     ∷ 100 ∷ 0 ∷ 0 ∷ 0 ∷ 0 ∷ 0 ∷ 0 ∷ 0
     ∷ 50 ∷ 0 ∷ 0 ∷ 0 ∷ 0 ∷ 0 ∷ 0 ∷ 0
     ∷ 200 ∷ 0 ∷ 0 ∷ 0 ∷ 0 ∷ 0 ∷ 0 ∷ 0
+    ∷ 1 ∷ 0 ∷ 0 ∷ 0 ∷ 0 ∷ 0 ∷ 0 ∷ 0
+    ∷ 5 ∷ 0 ∷ 0 ∷ 0 ∷ 0 ∷ 0 ∷ 0 ∷ 0
     ∷ 1 ∷ 0 ∷ 0 ∷ 0 ∷ 0 ∷ 0 ∷ 0 ∷ 0
     ∷ 0 ∷ 0 ∷ 0 ∷ 0 ∷ 0 ∷ 0 ∷ 0 ∷ 0
     ∷ 0 ∷ 0 ∷ 0 ∷ 0 ∷ 0 ∷ 0 ∷ 0 ∷ 0
@@ -80,13 +84,13 @@ pub record Worked : Type 0 where
   pub made_short : made_for_host 4 100 50 200 55 ≡ refused 9
   pub no_shard : made_for_host 0 0 50 200 0 ≡ refused 1
   pub no_span : made_for_host 4 0 50 200 0 ≡ refused 2
-  pub read : read_for_host stored_bytes 224 ≡ given stored_bytes []
-  pub read_short : read_for_host stored_bytes 223 ≡ refused 9
-  pub no_words : read_for_host (take 223 stored_bytes) 0 ≡ refused 12
-  pub word_less : read_for_host (take 216 stored_bytes) 0 ≡ refused 12
+  pub read : read_for_host stored_bytes 240 ≡ given stored_bytes []
+  pub read_short : read_for_host stored_bytes 239 ≡ refused 9
+  pub no_words : read_for_host (take 239 stored_bytes) 0 ≡ refused 12
+  pub word_less : read_for_host (take 232 stored_bytes) 0 ≡ refused 12
   pub never_written : read_for_host (0 ∷ drop 1 empty_bytes) 0 ≡ refused 13
-  pub pruned : pruned_for_host stored_bytes 0 56 40 ≡ given left_bytes told_bytes
-  pub out_short : pruned_for_host stored_bytes 0 55 40 ≡ refused 9
-  pub reports_short : pruned_for_host stored_bytes 0 56 39 ≡ refused 9
+  pub pruned : pruned_for_host stored_bytes 0 72 40 ≡ given left_bytes told_bytes
+  pub out_short : pruned_for_host stored_bytes 0 71 40 ≡ refused 9
+  pub reports_short : pruned_for_host stored_bytes 0 72 39 ≡ refused 9
   pub no_time : pruned_for_host stored_bytes (2 ^ 48) 0 0 ≡ refused 3
-  pub no_words_no_time : pruned_for_host (take 223 stored_bytes) (2 ^ 48) 0 0 ≡ refused 12
+  pub no_words_no_time : pruned_for_host (take 239 stored_bytes) (2 ^ 48) 0 0 ≡ refused 12

@@ -1,8 +1,8 @@
 -- From what the arrays hold to what the ledger means: one law gives a ledger with other parts back as held, and by it an entry is
--- changed, taken in or let go, the entries that a test keeps stay, and other departures or another count come in.
+-- changed, taken in or let go, the entries that a test keeps stay, and other departures or counts come in.
 -- Assumes nothing.
 use Rattle.std.specs.Prelude.{Some, None}
-use Prim.Native.Nat.{ℕ, ◌<◌, ◌≤◌}
+use Prim.Native.Nat.{ℕ, ◌<◌}
 use mathlib.Core.Path.{◌≡◌, refl, sym, ap, ap₂, ◌∙◌}
 use mathlib.Core.Bool.{Bool, false}
 use mathlib.Core.List.{List, map}
@@ -15,11 +15,10 @@ use Rattle.lists.proofs.Loops.{located, include-rank}
 use Rattle.lists.proofs.Distinct.{every_at, distinct-take, take_lacks, map-insert_at, map-remove_at, map-keep_by, keep_by_test, read_elsewhere, read_stored}
 use Rattle.lists.proofs.Maps.{map-set, map-change_if}
 use Rattle.rules.specs.Plain as plain
-use Rattle.rules.specs.Plain.{Plain, transaction_of, with_entries, with_departures, with_rebuilt}
-use Rattle.rules.specs.Numbers.{max_count}
+use Rattle.rules.specs.Plain.{Plain, transaction_of, with_entries, with_departures, with_counts}
 use Rattle.rules.specs.Index.{pair_key, pairs_of, index_of, index}
-use Rattle.rules.specs.Good.{Good}
-use Rattle.rules.proofs.Kept.{with-rebuilt}
+use Rattle.rules.specs.Good.{GoodCounts, Good}
+use Rattle.rules.proofs.Kept.{with-counts}
 use Rattle.rules.proofs.Named.{IsOfWord, good-words}
 use Rattle.rules.proofs.Reindex.{index_of-without, index_of-include, index_of-change}
 use Rattle.types.specs.Transactions.{number_of}
@@ -33,8 +32,11 @@ use Rattle.store.specs.Issuers.{is_not, pairs_in}
 use Rattle.store.specs.declared.departures.Departures.{Departures}
 use Rattle.store.specs.Departures as departures
 use Rattle.store.specs.Departures.{on_file}
+use Rattle.store.specs.declared.counts.Counts.{Counts}
+use Rattle.store.specs.Counts as counts
+use Rattle.store.specs.Counts.{counts_in}
 use Rattle.ledger.specs.declared.Ledger.{Ledger}
-use Rattle.ledger.specs.Contents.{no_entry, entry_in, entries_of, contents, Held, Became, with_parts, with_count, storing, slot_at, lying_at}
+use Rattle.ledger.specs.Contents.{no_entry, entry_in, entries_of, contents, Held, Became, with_parts, counting, storing, slot_at, lying_at}
 use Rattle.ledger.proofs.Places.{slots_length, order, placed, ranked, found_at, not_found}
 
 -- roster, slots and index that hold these entries
@@ -43,20 +45,20 @@ pub record Rows (local : ℕ) (rows : List plain.Entry) (r : Roster) (es : List 
   pub entries : map (entry_in es) (slots_of r) ≡ rows
   pub issuers : issuers.Holds (index_of local rows) x
 
-pub became : (l : Ledger) (n : ℕ) (rows : List plain.Entry) (ds : List plain.Departure) (r : Roster) (es : List Entry) (x : Issuers) (d : Departures) →
-    Rows l.local.0 rows r es x → departures.Holds ds d → Good (with_rebuilt n (with_departures ds (with_entries rows (contents l)))) → (s : length es ≡ 48) →
-    Became (with_rebuilt n (with_departures ds (with_entries rows (contents l)))) (with_parts l n r es x d s)
+pub became : (l : Ledger) (rows : List plain.Entry) (ds : List plain.Departure) (cs : List plain.Count) (r : Roster) (es : List Entry) (x : Issuers) (d : Departures) (n : Counts) →
+    Rows l.local.0 rows r es x → departures.Holds ds d → counts.Holds cs n → Good (with_counts cs (with_departures ds (with_entries rows (contents l)))) → (s : length es ≡ 48) →
+    Became (with_counts cs (with_departures ds (with_entries rows (contents l)))) (with_parts l n r es x d s)
 unfolding contents index
-became l n rows ds r es x d w f g s =
+became l rows ds cs r es x d n w f q g s =
     let e = w.entries in
     record {
       held =
           record {
             keyed = w.keys ∙ ap (map transaction_of) (sym e);
             issuers = record { pairs = w.issuers.pairs ∙ ap (index_of l.local.0) (sym e) };
-            good = rw (e, f.file) g;
+            good = rw (e, f.file, q.counts) g;
           };
-      holds = rw (e, f.file);
+      holds = rw (e, f.file, q.counts);
     }
 
 module _ (l : Ledger) (h : Held l) where
@@ -68,22 +70,26 @@ module _ (l : Ledger) (h : Held l) where
   same_file : departures.Holds (on_file l.departures) l.departures
   same_file = record { file = refl }
 
+  same_counts : counts.Holds (counts_in l.counts) l.counts
+  same_counts = record { counts = refl }
+
   -- other entries, and nothing else
   pub with_rows : (rows : List plain.Entry) (r : Roster) (es : List Entry) (x : Issuers) → Rows l.local.0 rows r es x → Good (with_entries rows (contents l)) → (s : length es ≡ 48) →
-      Became (with_entries rows (contents l)) (with_parts l l.rebuilt r es x l.departures s)
+      Became (with_entries rows (contents l)) (with_parts l l.counts r es x l.departures s)
   unfolding contents
-  with_rows rows r es x w g s = became l l.rebuilt rows (on_file l.departures) r es x l.departures w same_file g s
+  with_rows rows r es x w g s = became l rows (on_file l.departures) (counts_in l.counts) r es x l.departures l.counts w same_file same_counts g s
 
   -- other departures, beside other entries or the same
   pub filed : (ds : List plain.Departure) (d : Departures) → departures.Holds ds d → Good (with_departures ds (contents l)) → (s : length l.entries ≡ 48) →
-      Became (with_departures ds (contents l)) (with_parts l l.rebuilt l.roster l.entries l.issuers d s)
+      Became (with_departures ds (contents l)) (with_parts l l.counts l.roster l.entries l.issuers d s)
   unfolding contents
-  filed ds d f g s = became l l.rebuilt (entries_of l) ds l.roster l.entries l.issuers d same_rows f g s
+  filed ds d f g s = became l (entries_of l) ds (counts_in l.counts) l.roster l.entries l.issuers d l.counts same_rows f same_counts g s
 
-  -- another count
-  pub counted : (n : ℕ) → n ≤ max_count → (s : length l.entries ≡ 48) → Became (with_rebuilt n (contents l)) (with_count l n s)
+  -- other counts
+  pub counted : (cs : List plain.Count) (n : Counts) → counts.Holds cs n → GoodCounts cs → (s : length l.entries ≡ 48) → Became (with_counts cs (contents l)) (counting l n s)
   unfolding contents
-  counted n few s = became l n (entries_of l) (on_file l.departures) l.roster l.entries l.issuers l.departures same_rows same_file (with-rebuilt (contents l) n h.good few) s
+  counted cs n q g s =
+      became l (entries_of l) (on_file l.departures) cs l.roster l.entries l.issuers l.departures n same_rows same_file q (with-counts (contents l) cs h.good g) s
 
   -- One entry changed where it lies; its terms stay.
   pub changed : (t k : ℕ) (x d : Entry) (f : plain.Entry → plain.Entry) → place (is t) 0 (keys_of l.roster) ≡ Some k →
@@ -120,7 +126,7 @@ module _ (l : Ledger) (h : Held l) where
       k ≡ rank (below (number_of x.tx)) (keys_of l.roster) → l.roster.len < 48 → IsOfWord (plain_entry x) → Inserted l.roster k (number_of x.tx) r →
       issuers.Holds (include_all pair_key (pairs_of l.local.0 (plain_entry x)) (index (contents l))) ix →
       Good (with_entries (include transaction_of (plain_entry x) (contents l).entries) (contents l)) → (s : length (set l.entries (free_slot l.roster) x) ≡ 48) →
-      Became (with_entries (include transaction_of (plain_entry x) (contents l).entries) (contents l)) (with_parts l l.rebuilt r (set l.entries (free_slot l.roster) x) ix l.departures s)
+      Became (with_entries (include transaction_of (plain_entry x) (contents l).entries) (contents l)) (with_parts l l.counts r (set l.entries (free_slot l.roster) x) ix l.departures s)
   unfolding contents index plain_entry
   taken_in k x r ix e q room word o i g z =
       let t = number_of x.tx in
@@ -151,7 +157,7 @@ module _ (l : Ledger) (h : Held l) where
   pub let_go : (t k : ℕ) (r : Roster) (ix : Issuers) → place (is t) 0 (keys_of l.roster) ≡ Some k →
       Removed l.roster k r → issuers.Holds (keep (is_not t) (pairs_in l.issuers)) ix →
       Good (with_entries (without transaction_of t (contents l).entries) (contents l)) → (s : length l.entries ≡ 48) →
-      Became (with_entries (without transaction_of t (contents l).entries) (contents l)) (with_parts l l.rebuilt r l.entries ix l.departures s)
+      Became (with_entries (without transaction_of t (contents l).entries) (contents l)) (with_parts l l.counts r l.entries ix l.departures s)
   unfolding contents index
   let_go t k r ix e c i g z =
       let w = located transaction_of t (entries_of l) k (sym (placed l h t) ∙ e) in

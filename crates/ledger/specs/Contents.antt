@@ -10,9 +10,11 @@ use Rattle.entry.specs.Entry.{plain_entry}
 use Rattle.store.specs.Roster.{keys_of, slots_of}
 use Rattle.store.specs.Issuers as issuers
 use Rattle.store.specs.Departures.{on_file}
+use Rattle.store.specs.Counts.{counts_in}
 use Rattle.store.specs.declared.roster.Roster.{Roster}
 use Rattle.store.specs.declared.issuers.Issuers.{Issuers}
 use Rattle.store.specs.declared.departures.Departures.{Departures}
+use Rattle.store.specs.declared.counts.Counts.{Counts}
 use Rattle.ledger.specs.declared.Ledger.{Ledger}
 
 -- what stands for an entry past the slots, where nothing is ever read
@@ -39,7 +41,7 @@ contents l =
       leg_span = l.leg_span;
       entries = entries_of l;
       departures = on_file l.departures;
-      rebuilt = l.rebuilt;
+      counts = counts_in l.counts;
     }
 
 -- the roster's keys are the entries' transactions, the index is the one that the entries give, and the contents are good; that the parts
@@ -54,15 +56,15 @@ pub record Became (p : Plain) (r : Ledger) : Type 0 where
   pub held : Held r
   pub holds : contents r ≡ p
 
--- the ledger with other parts: running count, roster, as many entries, index and departures
-abbrev pub with_parts : Ledger → ℕ → Roster → (es : List Entry) → Issuers → Departures → length es ≡ 48 → Ledger
+-- the ledger with other parts: counts, roster, as many entries, index and departures
+abbrev pub with_parts : Ledger → Counts → Roster → (es : List Entry) → Issuers → Departures → length es ≡ 48 → Ledger
 with_parts l n r es x d s =
     record {
       local = l.local;
       validity = l.validity;
       core_span = l.core_span;
       leg_span = l.leg_span;
-      rebuilt = n;
+      counts = n;
       roster = r;
       entries = es;
       issuers = x;
@@ -70,12 +72,12 @@ with_parts l n r es x d s =
       slots = s;
     }
 
--- the ledger with another running count, and with another entry in a slot
-abbrev pub with_count : (l : Ledger) → ℕ → length l.entries ≡ 48 → Ledger
-with_count l n s = with_parts l n l.roster l.entries l.issuers l.departures s
+-- the ledger with other counts, and with another entry in a slot
+abbrev pub counting : (l : Ledger) → Counts → length l.entries ≡ 48 → Ledger
+counting l n s = with_parts l n l.roster l.entries l.issuers l.departures s
 
 abbrev pub storing : (l : Ledger) (slot : ℕ) (e : Entry) → length (set l.entries slot e) ≡ 48 → Ledger
-storing l slot e s = with_parts l l.rebuilt l.roster (set l.entries slot e) l.issuers l.departures s
+storing l slot e s = with_parts l l.counts l.roster (set l.entries slot e) l.issuers l.departures s
 
 -- the slot at a place of the roster, and the entry that lies there; d is read where there is none
 abbrev pub slot_at : Ledger → ℕ → ℕ

@@ -1,10 +1,12 @@
 // The ledger: which transactions are owed an ending. Entries lie in slots and never move; the roster says in which slot each
-// transaction's entry lies, the issuer index which transactions issued a record, and the departures which shards have gone.
+// transaction's entry lies, the issuer index which transactions issued a record, the departures which shards have gone, and the counts how
+// many entries each shard's records rebuilt.
 #![tactic(auto)]
 
 ghost use Rattle.std.specs.Prelude.{◌≡◌, length};
 
 use entry::Entry;
+use store::counts::Counts;
 use store::departures::Departures;
 use store::issuers::Issuers;
 use store::roster::Roster;
@@ -18,11 +20,11 @@ pub struct Ledger {
     pub validity: u64,
     pub core_span: u64,
     pub leg_span: u64,
-    pub rebuilt: u64,
     pub roster: Roster,
     pub entries: [Entry; 48],
     pub issuers: Issuers,
     pub departures: Departures,
+    pub counts: Counts,
     pub ghost slots: { length entries ≡ 48 },
 }
 

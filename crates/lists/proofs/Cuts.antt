@@ -3,7 +3,7 @@
 -- Assumes nothing.
 use Prim.Native.Nat.{ℕ, zero, suc, ◌+◌, ◌-◌, ◌*◌, ◌≤◌, ◌<◌}
 use mathlib.Core.Path.{◌≡◌, refl, sym, ap, ◌∙◌}
-use mathlib.Core.List.{List, [], ◌∷◌, ◌++◌}
+use mathlib.Core.List.{List, [], ◌∷◌, ◌++◌, map}
 use mathlib.Core.Bool.{Bool, true, false, ◌&&◌}
 use native.Mathlib.Numerals.{add-one}
 use native.Mathlib.Nat.{suc-mul, suc-add}
@@ -12,6 +12,7 @@ use borrow.Author.Tests.{leb-true, le-leb, ltb-true, lt-ltb}
 use lib.Dec.{ltb, leb}
 use lib.ListN.{length, take, drop, get_or, length-take, length-drop, drop_of_length-le}
 use lib.Seq.{drop-cons, take-take, drop-drop, get_or-drop, get_or-take, take-nil}
+use Rattle.std.proofs.lemmas.List.{drop-map}
 use Rattle.std.specs.List.{AllAdjacentBelow, IsAllAdjacentAnswer}
 use Rattle.lists.specs.Lists.{all, Every, all_of, total, zip_by, self, part, cut, above_all, ascending}
 use Rattle.lists.proofs.Tests.{and_left, and_right, and_both, and_false}
@@ -26,6 +27,13 @@ rest-none s i h = drop_of_length-le s {i = i} h
 
 pub rest_tail : {A : Type 0} (s : List A) (i : ℕ) (x : A) (t : List A) → drop i s ≡ x ∷ t → drop (i + 1) s ≡ t
 rest_tail s i x t e = sym (drop-drop 1 i s) ∙ ap (drop 1) e
+
+-- the same of what the items stand for
+pub rest_mapped : {A B : Type 0} (f : A → B) (d : A) (s : List A) (i : ℕ) → i < length s → drop i (map f s) ≡ f (get_or s i d) ∷ drop (i + 1) (map f s)
+rest_mapped f d s i h = drop-map f i s ∙ ap (map f) (rest_more d s i h) ∙ ap (λ m. f (get_or s i d) ∷ m) (sym (drop-map f (i + 1) s))
+
+pub mapped-none : {A B : Type 0} (f : A → B) (s : List A) (i : ℕ) → length s ≤ i → drop i (map f s) ≡ []
+mapped-none f s i h = drop-map f i s ∙ ap (map f) (rest-none s i h)
 
 -- a test of each: all p (what is to come) stays
 

@@ -1,13 +1,14 @@
 -- The list in the front of an array: how long it is, what stands at a place, what holds of each when one more is put behind, and how a list
 -- comes together from what is still to come.
 -- Assumes nothing.
-use Prim.Native.Nat.{ℕ, zero, suc, ◌+◌, ◌<◌}
+use Prim.Native.Nat.{ℕ, zero, suc, ◌+◌, ◌<◌, ◌≤◌}
 use mathlib.Core.Path.{◌≡◌, sym, ap, ◌∙◌}
-use mathlib.Core.List.{List, [], ◌∷◌, ◌++◌, append-nil}
+use mathlib.Core.List.{List, [], ◌∷◌, ◌++◌, map, append-nil}
 use native.Mathlib.Omega.{arith}
-use lib.ListN.{length, get_or}
+use lib.ListN.{length, drop, get_or, length-map}
 use lib.Seq.{length-take-le, get_or-take, append_snoc}
 use Rattle.lists.specs.Front.{held}
+use Rattle.lists.proofs.Cuts.{rest_mapped, mapped-none}
 use Rattle.lists.specs.declared.front.Front.{Front}
 
 more : {A : Type 0} (P : ℕ → A → Type 0) (l : List A) (x : A) → ((k : ℕ) (d : A) → k < length l → P k (get_or l k d)) → P (length l) x →
@@ -21,8 +22,20 @@ module _ {A : Type 0} {n : ℕ} (f : Front A n) where
   pub held-length : length (held f) ≡ f.len
   held-length = length-take-le f.len f.items (omega (arith, f.room, f.size))
 
+  -- as what each of its items stands for
+  pub mapped-length : {B : Type 0} (g : A → B) → length (map g (held f)) ≡ f.len
+  mapped-length g = length-map (held f) g ∙ held-length
+
   pub held_at : (k : ℕ) (d : A) → k < f.len → get_or (held f) k d ≡ get_or f.items k d
   held_at k d h = get_or-take f.len f.items k d h
+
+  -- the next of those still to come in a slice of it, as what each stands for; and that none is left
+  pub next_held : {B : Type 0} (g : A → B) (xs : List A) → xs ≡ held f → (i : ℕ) (d : A) → i < length xs →
+      drop i (map g (held f)) ≡ g (get_or xs i d) ∷ drop (i + 1) (map g (held f))
+  next_held g xs e i d h = rw e (rest_mapped g d (held f) i (rw e at h))
+
+  pub none_held : {B : Type 0} (g : A → B) (xs : List A) → xs ≡ held f → (i : ℕ) → length xs ≤ i → drop i (map g (held f)) ≡ []
+  none_held g xs e i h = mapped-none g (held f) i (rw e at h)
 
   pub each_pushed : (P : ℕ → A → Type 0) (x : A) (l : List A) → l ≡ held f ++ x ∷ [] → ((k : ℕ) (d : A) → k < f.len → P k (get_or (held f) k d)) → P f.len x →
       (k : ℕ) (d : A) → k < f.len + 1 → P k (get_or l k d)

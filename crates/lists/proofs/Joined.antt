@@ -5,10 +5,12 @@ use mathlib.Core.Path.{◌≡◌, refl, sym, ap, ap₂, ◌∙◌}
 use mathlib.Core.List.{List, [], ◌∷◌, ◌++◌, map, map-map, append_assoc}
 use native.Mathlib.Nat.{mul-suc, suc-add}
 use native.Mathlib.Omega.{arith}
-use lib.ListN.{length, take, drop, get_or, replicate, length-append, length-drop, take-append-drop, length-replicate}
+use lib.ListN.{length, take, drop, get_or, replicate, length-map, length-append, length-drop, take-append-drop, length-replicate}
 use lib.Seq.{take_at, take-append_seam, drop-append_seam, drop-drop, length-take-le, take-append-le, drop-append-le, take-nil}
 use Rattle.lists.specs.Lists.{Every, total, concat_map, self, part, cut, rows}
 use Rattle.lists.proofs.Cuts.{rest_more}
+use Rattle.lists.proofs.Keep.{every_always, every_more}
+use Rattle.lists.proofs.Listing.{length-words}
 use Rattle.lists.proofs.Parts.{every_take, every_drop}
 use Rattle.lists.proofs.Zip.{length_cut}
 
@@ -39,6 +41,15 @@ pub part_append : (k n : ℕ) (a b : List ℕ) → k + n ≤ length a → part k
 part_append k n a b h =
     ap (take n) (drop-append-le k a b (omega (arith, h))) ∙ take-append-le n (drop k a) b (omega (arith, h, length-drop k a))
 
+-- there and back of each is there and back of all
+pub map_back : {A B : Type 0} (f : A → B) (g : B → A) (xs : List A) → Every (λ x. g (f x) ≡ x) xs → map g (map f xs) ≡ xs
+map_back f g [] v = refl
+map_back f g (x ∷ xs) v = ap₂ (λ y ys. y ∷ ys) v.0 (map_back f g xs v.1)
+
+-- pieces that are what f says of each are read by what reads each back
+pub map_read : {A B : Type 0} (f : A → B) (g : B → A) → ((x : A) → g (f x) ≡ x) → (xs : List A) (pieces : List B) → pieces ≡ map f xs → map g pieces ≡ xs
+map_read f g back xs pieces e = ap (map g) e ∙ map_back f g xs (every_always (λ x. g (f x) ≡ x) back xs)
+
 -- What f says of each, end to end, and cut apart again.
 module _ {A : Type 0} (f : A → List ℕ) where
   pub cut_joined : (xs : List A) (rest : List ℕ) → cut (map (λ x. length (f x)) xs) (concat_map f xs ++ rest) ≡ map f xs
@@ -62,6 +73,9 @@ module _ {A : Type 0} (f : A → List ℕ) where
 
     pub rows_joined : (xs : List A) (rest : List ℕ) → rows k (length xs) (concat_map f xs ++ rest) ≡ map f xs
     rows_joined xs rest = rw (one_size xs) at (cut_joined xs rest)
+
+    pub behind_rows : (n : ℕ) (l : List ℕ) (xs : List A) (rest : List ℕ) → drop n l ≡ concat_map f xs ++ rest → drop (n + k * length xs) l ≡ rest
+    behind_rows n l xs rest e = rw (length-words f k same xs) at (behind n l (concat_map f xs) rest e)
 
 -- the lists, end to end
 concat_map-map : {A B : Type 0} (f : A → List B) (xs : List A) → concat_map (λ m. m) (map f xs) ≡ concat_map f xs
@@ -96,10 +110,15 @@ every_row k n l h = go n l (rw (sym (total-replicate n k)) at h)
     go zero l h = tt
     go (suc n) l h = (length-take-le k l (omega arith), go n (drop k l) (omega (arith, h, length-drop k l)))
 
--- there and back of each is there and back of all
-pub map_back : {A B : Type 0} (f : A → B) (g : B → A) (xs : List A) → Every (λ x. g (f x) ≡ x) xs → map g (map f xs) ≡ xs
-map_back f g [] v = refl
-map_back f g (x ∷ xs) v = ap₂ (λ y ys. y ∷ ys) v.0 (map_back f g xs v.1)
+-- a row of two words is these
+pub every_pair : (n : ℕ) (l : List ℕ) → 2 * n ≤ length l → Every (λ m. get_or m 0 0 ∷ get_or m 1 0 ∷ [] ≡ m) (rows 2 n l)
+every_pair n l h = every_more (λ m. length m ≡ 2) (λ m. get_or m 0 0 ∷ get_or m 1 0 ∷ [] ≡ m) two (rows 2 n l) (every_row 2 n l h)
+  where
+    two : (m : List ℕ) → length m ≡ 2 → get_or m 0 0 ∷ get_or m 1 0 ∷ [] ≡ m
+    two [] h = absurd (omega (arith, h))
+    two (x ∷ []) h = absurd (omega (arith, h))
+    two (x ∷ y ∷ []) h = refl
+    two (x ∷ y ∷ z ∷ m) h = absurd (omega (arith, h))
 
 -- What is read of the pieces, and written again, has their sizes and is what was cut.
 module _ {A : Type 0} (f : A → List ℕ) (xs : List A) (sizes l : List ℕ) (same : map f xs ≡ cut sizes l) where
@@ -108,6 +127,14 @@ module _ {A : Type 0} (f : A → List ℕ) (xs : List A) (sizes l : List ℕ) (s
 
   pub joined_again : concat_map f xs ≡ take (total self sizes) l
   joined_again = sym (concat_map-map f xs) ∙ ap (concat_map (λ m. m)) same ∙ joined_cut sizes l
+
+-- the same of rows: as many are read, and written again they are the front of the list
+module _ {A : Type 0} (g : List ℕ → A) (k n : ℕ) (l : List ℕ) where
+  pub length_read : length (map g (rows k n l)) ≡ n
+  length_read = length-map (rows k n l) g ∙ length_rows k n l
+
+  pub rows_again : (f : A → List ℕ) → Every (λ m. f (g m) ≡ m) (rows k n l) → concat_map f (map g (rows k n l)) ≡ take (k * n) l
+  rows_again f v = joined_again f (map g (rows k n l)) (replicate n k) l (map_back g f (rows k n l) v) ∙ ap (λ i. take i l) (total-replicate n k)
 
 -- what holds of each word holds of those of each piece
 pub every_piece : (P : ℕ → Type 0) (sizes l : List ℕ) → Every P l → Every (Every P) (cut sizes l)

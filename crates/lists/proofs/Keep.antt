@@ -159,6 +159,9 @@ pub every_concat_map : {A B : Type 0} (P : B → Type 0) (f : A → List B) (l :
 every_concat_map P f [] v = tt
 every_concat_map P f (x ∷ l) v = every_append P (f x) (concat_map f l) v.0 (every_concat_map P f l v.1)
 
+pub every_joined : {A B : Type 0} (Q : A → Type 0) (P : B → Type 0) (f : A → List B) → ((x : A) → Q x → Every P (f x)) → (l : List A) → Every Q l → Every P (concat_map f l)
+every_joined Q P f h l v = every_concat_map P f l (every_more Q (λ x. Every P (f x)) h l v)
+
 -- what holds of each holds of a number among them
 pub every-has : (P : ℕ → Type 0) (r : ℕ) (l : List ℕ) → Every P l → has self r l ≡ true → P r
 every-has P r [] v h = absurd (false≢true h)
@@ -185,6 +188,11 @@ module _ {A B : Type 0} (f : A → B) where
   pub every_unmap : (P : B → Type 0) (l : List A) → Every P (map f l) → Every (λ x. P (f x)) l
   every_unmap P [] v = tt
   every_unmap P (x ∷ l) v = (v.0, every_unmap P l v.1)
+
+  -- a test that f's of each good one passes
+  pub passes_each : (P : A → Type 0) (q : B → Bool) → ((x : A) → P x → q (f x) ≡ true) → (l : List A) → Every P l → all q (map f l) ≡ true
+  passes_each P q h [] v = refl
+  passes_each P q h (x ∷ l) v = and_both (q (f x)) (all q (map f l)) (h x v.0) (passes_each P q h l v.1)
 
 -- two tests, one after the other, are one
 pub keep_and : {A : Type 0} (p q : A → Bool) (l : List A) → keep q (keep p l) ≡ keep (λ x. p x && q x) l

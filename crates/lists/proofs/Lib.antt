@@ -11,6 +11,7 @@ pub mod Ranked
 pub mod Distinct
 pub mod Maps
 pub mod Pairs
+pub mod Rising
 pub mod Picked
 pub mod Room
 pub mod Zip

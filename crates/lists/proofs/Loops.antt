@@ -2,7 +2,7 @@
 -- The front is `take n a`; what is still to come at turn i is `drop i (take n a)`. d is what is read past an array's end: write _.
 -- Assumes nothing.
 use Prim.Native.Nat.{ℕ, zero, suc, ◌+◌, ◌≤◌, ◌<◌}
-use mathlib.Core.Path.{◌≡◌, refl, ap, subst}
+use mathlib.Core.Path.{◌≡◌, refl, sym, ap, ◌∙◌, subst}
 use mathlib.Core.List.{List, [], ◌∷◌, map}
 use mathlib.Core.Bool.{Bool, true, false, cond, not, ◌||◌, true≢false}
 use mathlib.Core.Option.{none, some}
@@ -12,10 +12,10 @@ use borrow.Author.Tests.{eqb-true, eqb-false, ne_eqb, ltb-true, ltb-false, lt-lt
 use lib.Dec.{eqb, ltb}
 use lib.ListN.{length, take, drop, get_or, set, drop_of_length-le}
 use lib.Seq.{drop-cons, length-take-le, get_or-take}
-use Rattle.std.specs.Prelude.{Some, None}
+use Rattle.std.specs.Prelude.{Option, Some, None, is_some}
 use Rattle.lists.specs.Lists.{cons_if, any, at, has, get, without, change, include, Ascending}
-use Rattle.lists.specs.Arrays.{insert_at, remove_at, place, rank}
-use Rattle.lists.proofs.Order.{above_lacks}
+use Rattle.lists.specs.Arrays.{insert_at, remove_at, place, rank, Places, Ranks}
+use Rattle.lists.proofs.Order.{above_lacks, ascending-include}
 use Rattle.lists.proofs.Change.{change_lacking}
 
 -- a rank is within the list
@@ -133,6 +133,11 @@ module _ {A : Type 0} (key : A → ℕ) (t : ℕ) where
       record { known = h; got = get_lacking l h; gone = without_lacking l h; changed = λ f. change_lacking key t f l h }
 
 -- the keys of a list are searched for the list
+-- whether one is found
+pub found-known : {A : Type 0} (key : A → ℕ) (t : ℕ) (l : List A) (o : Option ℕ) → o ≡ place (at key t) 0 l → is_some o ≡ has key t l
+found-known key t l (Some i) e = sym (located key t l i (sym e)).known
+found-known key t l None e = sym (missing key t l (sym e)).known
+
 pub map-place : {A B : Type 0} (g : A → B) (q : B → Bool) (k : ℕ) (l : List A) → place q k (map g l) ≡ place (λ x. q (g x)) k l
 unfolding place
 map-place g q k [] = refl
@@ -142,6 +147,14 @@ pub map-rank : {A B : Type 0} (g : A → B) (q : B → Bool) (l : List A) → ra
 unfolding rank
 map-rank g q [] = refl
 map-rank g q (x ∷ l) = ap (λ m. cond (q (g x)) (suc m) 0) (map-rank g q l)
+
+-- what is said of each item, whatever test of what it stands for that is, tells the place and the rank among what they stand for
+module _ {A B : Type 0} (Says : A → Bool → Type 0) (g : A → B) (q : B → Bool) (says : (x : A) (b : Bool) → Says x b → b ≡ q (g x)) where
+  pub place_as : {o : Option ℕ} (l m : List A) → Places Says l o → l ≡ m → o ≡ place q 0 (map g m)
+  place_as l m h e = h (λ x. q (g x)) says ∙ ap (place (λ x. q (g x)) 0) e ∙ sym (map-place g q 0 m)
+
+  pub rank_as : {n : ℕ} (l m : List A) → Ranks Says l n → l ≡ m → n ≡ rank q (map g m)
+  rank_as l m h e = h (λ x. q (g x)) says ∙ ap (rank (λ x. q (g x))) e ∙ sym (map-rank g q m)
 
 -- a new element is put in where its key ranks
 pub include-rank : {A : Type 0} (key : A → ℕ) (e : A) (l : List A) → has key (key e) l ≡ false → insert_at (rank (λ x. ltb (key x) (key e)) l) e l ≡ include key e l
@@ -157,6 +170,17 @@ include-rank {A} key e (x ∷ l) h = go (eqb (key x) (key e)) refl h (ltb (key x
         rw (le-ltb (key e) (key x) (omega (arith, ltb-true (key x) (key e) w)), ne_eqb (key e) (key x) (omega (arith, ltb-true (key x) (key e) w)))
         (ap (λ m. x ∷ m) (ih q))
     go false u q false w ih = rw (lt-ltb (key e) (key x) (omega (arith, ltb-false (key x) (key e) w, eqb-false (key x) (key e) u)))
+
+-- one that is not found, put in where it ranks
+module _ {A : Type 0} (key : A → ℕ) (e : A) (l : List A) (k : ℕ) (new : place (at key (key e)) 0 l ≡ None) (is : k ≡ rank (λ x. ltb (key x) (key e)) l) where
+  pub ranked-low : k ≤ length l
+  ranked-low = omega (arith, is, rank_le (λ x. ltb (key x) (key e)) l)
+
+  pub ranked_in : insert_at k e l ≡ include key e l
+  ranked_in = ap (λ j. insert_at j e l) is ∙ include-rank key e l (missing key (key e) l new).known
+
+  pub ranked_rises : Ascending key l → Ascending key (insert_at k e l)
+  ranked_rises a = rw ranked_in (ascending-include key e l a)
 
 -- moving a hole through an array: `remove_at i a` is the array without what stands at the hole
 

@@ -3,10 +3,10 @@
 use Prim.Native.Nat.{ℕ, suc, ◌+◌, ◌≤◌, ◌<◌}
 use mathlib.Core.Path.{◌≡◌, refl, sym, ap, ◌∙◌}
 use mathlib.Core.List.{List, [], ◌∷◌, map, Memᴰ}
-use mathlib.Core.Bool.{Bool, true, false, cond, ◌||◌, false≢true}
+use mathlib.Core.Bool.{Bool, true, false, cond, not, ◌||◌, ◌&&◌, false≢true}
 use native.Mathlib.Omega.{arith}
-use borrow.Author.Tests.{ltb-true, ltb-false, eqb-true, eqb-false, eq-eqb, ne_eqb, lt-ltb, le-ltb}
-use lib.Dec.{eqb, ltb}
+use borrow.Author.Tests.{ltb-true, ltb-false, leb-false, eqb-true, eqb-false, eq-eqb, ne_eqb, lt-ltb, le-ltb}
+use lib.Dec.{eqb, ltb, leb}
 use lib.ListN.{length}
 use Rattle.lists.specs.Lists.{cons_if, keep, any, change_if, Every, has, include, include_all, Above, Ascending, above_all, ascending}
 use Rattle.lists.proofs.Tests.{or_assoc, and_left, and_right, and_both}
@@ -130,6 +130,15 @@ module _ {A : Type 0} (key : A → ℕ) where
       go ih false t false u = ap (λ m. x ∷ m) (ih (later u))
 
   -- a new element makes one more
+  -- put in where there is room for what does not stand already, the list keeps its limit
+  pub include_within : (limit : ℕ) (e : A) (l : List A) → Ascending key l → length l ≤ limit → not (has key (key e) l) && leb limit (length l) ≡ false →
+      length (include key e l) ≤ limit
+  include_within limit e l a n room = go (has key (key e) l) refl room
+    where
+      go : (b : Bool) → has key (key e) l ≡ b → not b && leb limit (length l) ≡ false → length (include key e l) ≤ limit
+      go true k q = rw (include-known e l a k) n
+      go false k q = omega (arith, length-include e l, leb-false limit (length l) q)
+
   pub length-include_new : (e : A) (l : List A) → has key (key e) l ≡ false → length (include key e l) ≡ suc (length l)
   length-include_new e [] h = refl
   length-include_new e (x ∷ l) h = go (eqb (key x) (key e)) refl h (length-include_new e l) (ltb (key e) (key x))

@@ -22,3 +22,6 @@ row_next k (suc n) (suc i) l h =
     row_next k n i (drop k l) (omega (arith, h))
     ∙ ap (λ m. take k m ∷ drop (i + 1) (rows k n (drop k l))) (drop-drop (k * i) k l ∙ ap (λ j. drop j l) (let z : k + k * i ≡ k * suc i = omega (arith, mul-suc k i) in z))
     ∙ ap (λ m. part (k * suc i) k l ∷ m) (sym (ap (λ j. drop j (rows k (suc n) l)) (suc-add i 1)))
+
+pub row_read : (k n i : ℕ) (l row : List ℕ) → i < n → row ≡ part (k * i) k l → drop i (rows k n l) ≡ row ∷ drop (i + 1) (rows k n l)
+row_read k n i l row h e = row_next k n i l h ∙ ap (λ m. m ∷ drop (i + 1) (rows k n l)) (sym e)

@@ -19,8 +19,12 @@ module _ {A : Type 0} where
   rank p [] = 0
   rank p (x ∷ l) = cond (p x) (suc (rank p l)) 0
 
--- By whatever test the answers are given, so many elements from the front pass before the first that does not: Says is what is said of each
--- element that is asked about.
+-- By whatever test the answers are given, the first element that passes stands there: Says is what is said of each element that is asked
+-- about.
+abbrev pub Places : {A : Type 0} → (A → Bool → Type 0) → List A → Option ℕ → Type 0
+Places {A} Says l o = (p : A → Bool) → ((x : A) (b : Bool) → Says x b → b ≡ p x) → o ≡ place p 0 l
+
+-- By whatever test the answers are given, so many elements from the front pass before the first that does not.
 abbrev pub Ranks : {A : Type 0} → (A → Bool → Type 0) → List A → ℕ → Type 0
 Ranks {A} Says l n = (p : A → Bool) → ((x : A) (b : Bool) → Says x b → b ≡ p x) → n ≡ rank p l
 

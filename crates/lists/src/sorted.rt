@@ -1,10 +1,18 @@
-// Items that rise in the front of a slice: where one ranks, and putting a number in. The slice is lent, so that nothing of it is copied.
+// Items that rise in the front of a slice: where one stands, where one ranks, and putting a number in. The slice is lent, so that nothing of it is copied.
 ghost use Rattle.std.specs.Prelude.{◌≡◌, ◌≤◌, length, take, drop};
 ghost use Rattle.std.specs.Fn.{FnReturnsAt};
 ghost use Rattle.lists.specs.Lists.{include, Ascending, self};
-ghost use Rattle.lists.specs.Arrays.{Ranks, leads, Included};
+ghost use Rattle.lists.specs.Arrays.{Places, Ranks, leads, Included};
 
 use crate::fronts;
+
+// Where the first item that passes stands.
+pub fn find<T, F: Fn(&T) -> bool>(s: &[T], passes: F) -> Option<usize>
+    requires { (x : _) → F.pre passes x }
+    ensures { Places (FnReturnsAt F.Fn passes) s.now result }
+{
+    s.iter().position(|x| passes(x))
+}
 
 // How many items, from the front, pass before the first that does not.
 pub fn rank<T, F: Fn(&T) -> bool>(s: &[T], is_under: F) -> usize

@@ -103,12 +103,12 @@ pub fn local(ledger: &Ledger) -> Result<u64, Refusal>
     Ok(ledger.local.0)
 }
 
-// The running count of rebuilt entries.
+// How many entries were rebuilt in all.
 pub fn rebuilt(ledger: &Ledger) -> Result<u64, Refusal>
     requires { Held ledger.now }
     ensures { Reads (read rebuilt (contents ledger.now)) [] [] result }
 {
-    Ok(ledger.rebuilt)
+    Ok(ledger.counts.sum())
 }
 
 impl Question {

@@ -18,9 +18,9 @@ abbrev pub changing_names : List (List ℕ)
 changing_names = take 14 (drop 3 names)
 
 -- questions, open_at, answers, past_deadline, issuers_of, claimants, counterparts, unstamped_departures, reach, abandonment_answers, is_covered,
--- departed, executed, reaches_beyond, issued_by, local, rebuilt, snapshot: those before `dump`
+-- departed, executed, reaches_beyond, issued_by, local, rebuilt, snapshot, rebuilt_by_shard: those before `dump`
 abbrev pub reading_names : List (List ℕ)
-reading_names = take 18 (drop 17 names)
+reading_names = take 19 (drop 17 names)
 
 -- what each name makes of a line's numbers and the length of its list
 pub record Named (ws : List ℕ) (room : ℕ) : Type 0 where
@@ -66,4 +66,5 @@ pub record Named (ws : List ℕ) (room : ℕ) : Type 0 where
       ∷ readings.local
       ∷ readings.rebuilt
       ∷ readings.take_snapshot room
+      ∷ readings.rebuilt_by_shard room
       ∷ [])

@@ -13,8 +13,9 @@ pub fn put_ledger<W: Write>(writer: &mut Writer<W>, ledger: &Ledger)
 {
     let mut words = [0; SNAPSHOT_ROOM];
     let end = whole_snapshot(ledger, &mut words);
-    let entries_at = 7 + ledger.roster.len;
-    writer.put_words(&words[..7]);
+    let lengths_at = 7 + 2 * ledger.counts.front.len;
+    let entries_at = lengths_at + ledger.roster.len;
+    writer.put_words(&words[..lengths_at]);
     writer.put_word(ledger.issuers.len as u64);
     writer.put_words(&words[entries_at..end]);
     put_index(writer, &ledger.issuers);

@@ -104,7 +104,7 @@ module _ (o : Omitted) (fell : Felled) (p : Plain) (b : Beside o fell p) where
                 clear = rw l (every_change_if (Clear k p) (at transaction_of x) marks left (λ e c. marks_alike (Clear k p) e c c) b.clear);
                 fall =
                     rw m
-                    (every_more _ _ (λ e h. stands_beside p es p.rebuilt o.clock e ∙ h) (change transaction_of x marks gone)
+                    (every_more _ _ (λ e h. stands_beside p es p.counts o.clock e ∙ h) (change transaction_of x marks gone)
                     (every_change_if (λ e. stands p o.clock e ≡ false) (at transaction_of x) marks gone (λ e h. marks_stand e ∙ h) b.fall));
                 same =
                     rw m
@@ -133,7 +133,7 @@ module _ (o : Omitted) (fell : Felled) (p : Plain) (b : Beside o fell p) where
   unfolding after_admission
   admission-table ws n r =
       let xs = (admission_terms ws).transaction ∷ [] in
-      table_same 5 refl (not (admission_formed ws)) (not (admission_timed ws)) (not (admission_placed ws)) (no_room_for xs p) (no_room_for xs (less k p))
+      table_same 5 0 refl (not (admission_formed ws)) (not (admission_timed ws)) (not (admission_placed ws)) (no_room_for xs p) (no_room_for xs (less k p))
       (room-less o fell p b xs (n, tt)) (ap is_for_room (sym (unless-refused (admission_refusal ws p) p _ refl)) ∙ r)
 
   pub admission_paired : (ws : List ℕ) → k.is_fallen (admission_terms ws).transaction ≡ false →

@@ -70,7 +70,7 @@ module _ (o : Omitted) (fell : Felled) (p : Plain) (b : Beside o fell p) where
               fall =
                   rw r
                   (every_keep _ is_open (gone p.entries)
-                  (every_more _ _ (λ e h. stands_beside p (keep is_open p.entries) p.rebuilt o.clock e ∙ h) (gone p.entries) b.fall));
+                  (every_more _ _ (λ e h. stands_beside p (keep is_open p.entries) p.counts o.clock e ∙ h) (gone p.entries) b.fall));
               same = rw r (ap (map (report_of p.local)) (keep-keep is_open (told? p) told_open (gone p.entries)) ∙ b.same);
               many = rw r;
             };
@@ -192,7 +192,7 @@ module _ (o : Omitted) (fell : Felled) (p : Plain) (b : Beside o fell p) where
       terminal_refusal shard cut is_stamped until (less k p) ≡ terminal_refusal shard cut is_stamped until p
   unfolding after_terminal
   terminal-table shard cut is_stamped until n r =
-      table_same 7 refl (ltb 1 is_stamped) (not (is_time cut && (eqb is_stamped 0 || is_time until))) (not (is_shard shard))
+      table_same 7 0 refl (ltb 1 is_stamped) (not (is_time cut && (eqb is_stamped 0 || is_time until))) (not (is_shard shard))
       (not (has shard_of shard p.departures) && leb max_departures (length p.departures))
       (not (has shard_of shard (less k p).departures) && leb max_departures (length (less k p).departures)) fewer
       (ap is_for_room (sym (unless-refused (terminal_refusal shard cut is_stamped until p) p _ refl)) ∙ r)

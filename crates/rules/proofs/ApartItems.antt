@@ -20,7 +20,8 @@ use Rattle.rules.specs.Words.{record_shard, record_groups, record_formed, record
 use Rattle.rules.specs.Entries.{rebuilt, with_part, with_departed_by, with_group, rebuilt_of, with_groups, Ruling, skip, resolve, release, ruling, ruled, is_release, ruling_in, with_line, released_of, with_lines}
 use Rattle.rules.specs.Over.{over}
 use Rattle.rules.specs.Prune.{is_of_departed_by, holds}
-use Rattle.rules.specs.Calls.{no_room_for, abandonment_refusal, after_abandonment, finalization_refusal, after_finalization}
+use Rattle.rules.specs.Outcome.{◌gives◌then◌}
+use Rattle.rules.specs.Calls.{no_room_for, abandonment_refusal, after_abandonment, finalization_refusal, after_finalization, no_count_for, rebuilds}
 use Rattle.rules.specs.Good.{Good}
 use Rattle.rules.specs.LeftOut.{Taking, less, Omitted, dropped_in, is_for_room, Clear}
 use Rattle.rules.proofs.Less.{is_left, Felled, Beside}
@@ -152,13 +153,22 @@ module _ (o : Omitted) (fell : Felled) (p : Plain) (b : Beside o fell p) where
               (λ q. every_include transaction_of (Clear k p) (rebuilt shard g) es (c (f.known g.transaction q)) f.clear);
         }
 
+  -- it rebuilds as many on both ledgers
+  rebuilds-same : (ws : List ℕ) → Every (λ x. k.is_fallen x ≡ false) (map (λ (g : Terms). g.transaction) (record_groups ws)) → rebuilds ws (less k p) ≡ rebuilds ws p
+  rebuilds-same ws v =
+      let shard = record_shard ws in
+      let gs = record_groups ws in
+      tally-part (group shard) (Stays shard) (Ascending transaction_of) (group_rises shard) left (group_left shard) rebuilt_of (rebuilt-left shard) gs
+      (every_unmap (λ (g : Terms). g.transaction) _ gs v) p.entries b.good.entries.rows.order
+
   abandonment-table : (ws : List ℕ) → Every (λ x. k.is_fallen x ≡ false) (map (λ (g : Terms). g.transaction) (record_groups ws)) →
       is_for_room (after_abandonment ws p).refused ≡ false → abandonment_refusal ws (less k p) ≡ abandonment_refusal ws p
   unfolding after_abandonment
   abandonment-table ws v r =
       let xs = map (λ (g : Terms). g.transaction) (record_groups ws) in
-      table_same 5 refl (not (record_formed ws)) (not (record_timed ws)) (not (is_shard (record_shard ws))) (no_room_for xs p) (no_room_for xs (less k p))
-      (room-less o fell p b xs v) (ap is_for_room (sym (unless-refused (abandonment_refusal ws p) p _ refl)) ∙ r)
+      rw (rebuilds-same ws v)
+      (table_same 5 (no_count_for (record_shard ws) (rebuilds ws p) p.counts gives 14 then 0) refl (not (record_formed ws)) (not (record_timed ws)) (not (is_shard (record_shard ws))) (no_room_for xs p) (no_room_for xs (less k p))
+      (room-less o fell p b xs v) (ap is_for_room (sym (unless-refused (abandonment_refusal ws p) p _ refl)) ∙ r))
 
   pub abandonment_paired : (ws : List ℕ) → Every (λ x. k.is_fallen x ≡ false) (map (λ (g : Terms). g.transaction) (record_groups ws)) →
       Every (λ e. owed (transaction_of e) p ≡ false → Clear k p e) (map (rebuilt (record_shard ws)) (record_groups ws)) → k.is_dropped (record_shard ws) ≡ false →
@@ -172,10 +182,7 @@ module _ (o : Omitted) (fell : Felled) (p : Plain) (b : Beside o fell p) where
       let w : Every (Stays shard) gs = every_unmap (λ (g : Terms). g.transaction) _ gs v in
       let d : Every (λ g. has transaction_of g.transaction (left p.entries) ≡ false → Clear k p (rebuilt shard g)) gs =
       every_two _ _ _ (λ g i m q. i (sym (owed_same o fell p b g.transaction m) ∙ q)) gs (every_unmap (rebuilt shard) _ gs c) w in
-      rw (
-        abandonment-table ws v r,
-        tally-part (group shard) (Stays shard) (Ascending transaction_of) (group_rises shard) left (group_left shard) rebuilt_of (rebuilt-left shard) gs w p.entries order,
-      )
+      rw (abandonment-table ws v r, rebuilds-same ws v)
       (unless_paired o fell (abandonment_refusal ws p) p _ _ b g
       (λ e h. done_paired o fell _ _ _ _ refl
       (counted_moved o fell p b _ (with_groups shard gs p.entries) (with_groups shard gs (left p.entries)) h

@@ -8,21 +8,21 @@ use mathlib.Core.Option.{Option, none, some}
 use native.Mathlib.Omega.{arith}
 use lib.Dec.{eqb, ltb, leb}
 use lib.ListN.{length}
-use borrow.Author.Tests.{leb-false, ltb-false}
+use borrow.Author.Tests.{ltb-false, eqb-false, lt-ltb}
 use Rattle.lists.specs.Lists.{cons_if, keep, all_of, filled, Every, at, has, get, change, include, self, set_of}
 use Rattle.lists.proofs.Tests.{and_left, and_right, by_cond, cond_same, cond_both}
 use Rattle.lists.proofs.Keep.{length-keep, length-change_if, every_keep, keep_same, each_of}
-use Rattle.lists.proofs.Order.{ascending-keep, ascending-change_if, ascending-include, ascending-include_all, every_include, length-include, length-include_new, include-known}
+use Rattle.lists.proofs.Order.{ascending-keep, ascending-change_if, ascending-include, ascending-include_all, every_include, length-include, length-include_new, include-known, include_within}
 use Rattle.lists.proofs.Change.{every_change, has-change, has-include, new_include_known, new_include}
 use Rattle.lists.proofs.Items.{through_keeps}
-use Rattle.rules.specs.Numbers.{is_word, is_time, is_shard, is_span, max_entries, max_absences, max_departures, max_count}
-use Rattle.rules.specs.Plain.{Part, whole, leg, core, remainder, Terms, Absence, Entry, Departure, Plain, is_core, is_settling, transaction_of, absence_key, shard_of, empty, with_entries, with_departures, with_rebuilt, owed, entry_of, issues, owes}
+use Rattle.rules.specs.Numbers.{is_word, is_time, is_shard, is_span, max_entries, max_absences, max_departures, max_counts}
+use Rattle.rules.specs.Plain.{Part, whole, leg, core, remainder, Terms, Absence, Entry, Departure, Count, Plain, is_core, is_settling, transaction_of, absence_key, shard_of, counted_shard, empty, with_entries, with_departures, with_counts, owed, entry_of, issues, owes}
 use Rattle.rules.specs.Words.{word, transaction_size, transaction_at, decomposed, admission_terms, admission_formed, admission_timed, admission_placed, record_shard, record_groups, record_formed, record_timed, finalization_lines, deciding, Line, Item, bundle_items}
-use Rattle.rules.specs.Entries.{admitted, rebuilt, with_part, with_certificate, with_departed_by, with_marks, is_read, read_absent, certified, marked, is_closed, with_group, with_groups, rebuilt_by, skip, resolve, release, ruling, ruled, with_lines}
+use Rattle.rules.specs.Entries.{admitted, rebuilt, with_part, with_certificate, with_departed_by, with_marks, read_absent, certified, marked, is_closed, with_group, with_groups, rebuilt_by, skip, resolve, release, ruling, ruled, with_lines}
 use Rattle.rules.specs.Prune.{survivors, pruned, stands, remains}
 use Rattle.rules.specs.Outcome.{Outcome, unless, ◌gives◌then◌}
-use Rattle.rules.specs.Calls.{Call, admission, absence, certify, abandonment, settled, returned, closes, fated, finalization, forget, terminal, stamp, prune, bundle, step, run, making, making_refusal, unowed, no_room_for, admission_refusal, after_admission, is_new, is_full, absence_refusal, after_absence, certify_refusal, after_certify, abandonment_refusal, after_abandonment, after_mark, closes_refusal, after_closes, is_fated, after_fated, finalization_refusal, after_finalization, after_forget, first_stamp, stamped, departed, terminal_refusal, after_terminal, stamp_refusal, after_stamp, prune_refusal, after_prune, with_item, bundle_refusal, after_bundle}
-use Rattle.rules.specs.Good.{Holds, GoodAbsence, Marked, GoodPart, is_departed_by, GoodEntry, GoodStamp, GoodDeparture, GoodRows, GoodFile, GoodEntries, GoodDepartures, Good, OfWords}
+use Rattle.rules.specs.Calls.{Call, admission, absence, certify, abandonment, settled, returned, closes, fated, finalization, forget, terminal, stamp, prune, bundle, step, run, making, making_refusal, unowed, no_room_for, admission_refusal, after_admission, is_new, is_full, absence_refusal, after_absence, certify_refusal, after_certify, raised, opened, counted, no_count_for, rebuilds, abandonment_refusal, after_abandonment, after_mark, closes_refusal, after_closes, is_fated, after_fated, finalization_refusal, after_finalization, after_forget, first_stamp, stamped, departed, terminal_refusal, after_terminal, stamp_refusal, after_stamp, prune_refusal, after_prune, with_item, bundle_refusal, after_bundle}
+use Rattle.rules.specs.Good.{Holds, GoodAbsence, Marked, GoodPart, is_departed_by, GoodEntry, GoodStamp, GoodDeparture, GoodCount, GoodRows, GoodFile, GoodEntries, GoodDepartures, GoodCounts, Good, OfWords}
 use Rattle.rules.proofs.Items.{by_item, OfWordsItem, items-words}
 use Rattle.rules.proofs.Taken.{words-at, admitted-good, GoodGroup, groups_good, rebuilt-good}
 
@@ -179,13 +179,13 @@ module _ {A : Type 0} (key_of : A → ℕ) (Each : A → Type 0) where
 
 -- the ledger with other entries, other departures, another count
 pub with_entries_lem : (p : Plain) (es : List Entry) → Good p → GoodEntries p.local es → Good (with_entries es p)
-with_entries_lem p es g h = record { frame = g.frame; entries = h; departures = g.departures; rebuilt = g.rebuilt }
+with_entries_lem p es g h = record { frame = g.frame; entries = h; departures = g.departures; counts = g.counts }
 
 pub with-departures : (p : Plain) (ds : List Departure) → Good p → GoodDepartures ds → Good (with_departures ds p)
-with-departures p ds g h = record { frame = g.frame; entries = g.entries; departures = h; rebuilt = g.rebuilt }
+with-departures p ds g h = record { frame = g.frame; entries = g.entries; departures = h; counts = g.counts }
 
-pub with-rebuilt : (p : Plain) (n : ℕ) → Good p → n ≤ max_count → Good (with_rebuilt n p)
-with-rebuilt p n g h = record { frame = g.frame; entries = g.entries; departures = g.departures; rebuilt = h }
+pub with-counts : (p : Plain) (cs : List Count) → Good p → GoodCounts cs → Good (with_counts cs p)
+with-counts p cs g h = record { frame = g.frame; entries = g.entries; departures = g.departures; counts = h }
 
 -- the ledger with entries kept, or with one changed
 pub keeps : (p : Plain) (q : Entry → Bool) → Good p → Good (with_entries (keep q p.entries) p)
@@ -237,6 +237,27 @@ rebuilt-count shard (g ∷ gs) es = go (has transaction_of g.transaction es) ref
         let same = keep_same (λ u. not (has transaction_of u (with_group shard g es))) (λ u. not (eqb g.transaction u || has transaction_of u es)) (set_of (group_transactions gs))
         (λ u _. rw h (ap not (has-include transaction_of u (rebuilt shard g) es))) in
         rw (new_include (λ u. has transaction_of u es) g.transaction (set_of (group_transactions gs)) (ascending-include_all self (group_transactions gs) [] tt) h) (omega (arith, ih, ap length same))
+
+-- What it rebuilds is counted with its shard, where there is room for a count.
+
+raised_good : (n : ℕ) (c : Count) → GoodCount c → GoodCount (raised n c)
+raised_good n c g = record { shard = g.shard; some = omega (arith, g.some); few = omega arith }
+
+opened-good : (shard n : ℕ) → is_shard shard ≡ true → eqb n 0 ≡ false → GoodCount (opened shard n)
+opened-good shard n s z = record { shard = s; some = omega (arith, eqb-false n 0 z); few = omega arith }
+
+pub counted-good : (shard n : ℕ) (cs : List Count) → is_shard shard ≡ true → no_count_for shard n cs ≡ false → GoodCounts cs → GoodCounts (counted shard n cs)
+counted-good shard n cs s room g = by_cond GoodCounts (eqb n 0) cs _ (λ _. g) some
+  where
+    some : eqb n 0 ≡ false → GoodCounts (cond (has counted_shard shard cs) (change counted_shard shard (raised n) cs) (include counted_shard (opened shard n) cs))
+    some z =
+        by_cond GoodCounts (has counted_shard shard cs) _ _
+        (λ _. changed_file counted_shard GoodCount max_counts shard (raised n) cs (λ c. refl) (λ c _. raised_good n c) g)
+        (λ _.
+        record {
+          count = include_within counted_shard max_counts (opened shard n) cs g.rows.order g.count (rw (lt-ltb 0 n (omega (arith, eqb-false n 0 z))) at room);
+          rows = included_rows counted_shard GoodCount (opened shard n) cs (opened-good shard n s z) g.rows;
+        })
 
 -- Finalization: line by line.
 
@@ -291,14 +312,6 @@ admission-kept ws p v g =
       rows = included_rows transaction_of (GoodEntry p.local) new p.entries (admitted-good p.local ws v f.0 t.0 s.0) g.entries.rows;
     })
 
--- a pair that is read already is not put in again; a new one finds room
-absence-room : (local : ℕ) (a : Absence) (e : Entry) → GoodEntry local e → not (is_read a e) && leb max_absences (length e.absences) ≡ false → length (include absence_key a e.absences) ≤ max_absences
-absence-room local a e g h = go (is_read a e) refl h
-  where
-    go : (b : Bool) → is_read a e ≡ b → not b && leb 8 (length e.absences) ≡ false → length (include absence_key a e.absences) ≤ 8
-    go true k q = rw (include-known absence_key a e.absences g.absence_order k) g.absence_count
-    go false k q = omega (arith, length-include absence_key a e.absences, leb-false 8 (length e.absences) q)
-
 absence-kept : (t : ℕ) (a : Absence) (p : Plain) → is_word a.key ≡ true → Good p → Good (after_absence t a p).ledger
 unfolding after_absence
 absence-kept t a p w g =
@@ -306,7 +319,7 @@ absence-kept t a p w g =
     let s = tested (is_shard a.shard) 3 _ e in
     let room = (passed (is_new a (entry_of t p) && is_full (entry_of t p)) 6 0 s.1).0 in
     changes p t (read_absent a) (λ x. refl)
-    (λ x q h. absence-good p.local x h a (record { shard = s.0; key = w }) (absence-room p.local a x h (rw q at room)))
+    (λ x q h. absence-good p.local x h a (record { shard = s.0; key = w }) (include_within absence_key max_absences a x.absences h.absence_order h.absence_count (rw q at room)))
     g
 
 certify-kept : (t code : ℕ) (p : Plain) → Good p → Good (after_certify t code p).ledger
@@ -328,14 +341,15 @@ abandonment-kept ws p v g =
     let t = tested (record_timed ws) 2 _ f.1 in
     let s = tested (is_shard (record_shard ws)) 3 _ t.1 in
     let gs = record_groups ws in
-    let room = ltb-false (48 - length p.entries) (length (unowed (group_transactions gs) p)) (passed (no_room_for (group_transactions gs) p) 5 0 s.1).0 in
-    with-rebuilt (with_entries (with_groups (record_shard ws) gs p.entries) p) _
+    let l = passed (no_room_for (group_transactions gs) p) 5 _ s.1 in
+    let room = ltb-false (48 - length p.entries) (length (unowed (group_transactions gs) p)) l.0 in
+    with-counts (with_entries (with_groups (record_shard ws) gs p.entries) p) _
     (with_entries_lem p (with_groups (record_shard ws) gs p.entries) g
     (record {
       count = omega (arith, room, g.entries.count, groups_count (record_shard ws) gs p.entries, rebuilt-count (record_shard ws) gs p.entries);
       rows = groups_kept p.local (record_shard ws) s.0 (departed_by-shard (record_shard ws) s.0) gs (groups_good ws v f.0 t.0) p.entries g.entries.rows;
     }))
-    (omega arith)
+    (counted-good (record_shard ws) (rebuilds ws p) p.counts s.0 (passed (no_count_for (record_shard ws) (rebuilds ws p) p.counts) 13 0 l.1).0 g.counts)
 
 mark_kept : (r t : ℕ) (is_return : Bool) (p : Plain) → Good p → Good (after_mark r t is_return p).ledger
 unfolding after_mark
@@ -389,15 +403,11 @@ terminal-kept shard cut is_stamped until p g =
     let on : Good (with_departures ds p) =
     with-departures p ds g
     (record {
-      count = few new (has shard_of shard p.departures) refl room;
+      count = include_within shard_of max_departures new p.departures g.departures.rows.order g.departures.count room;
       rows = included_rows shard_of GoodDeparture new p.departures (record { shard = s.0; cut = times; stamp = tt }) g.departures.rows;
     }) in
     by_cond (λ l. Good (with_departures l p)) (eqb is_stamped 0) ds _ (λ _. on)
     (λ u. stamps p shard until ds (rw u at (and_right (is_time cut) (eqb is_stamped 0 || is_time until) t.0)) on)
-  where
-    few : (d : Departure) (b : Bool) → has shard_of d.shard p.departures ≡ b → not b && leb 32 (length p.departures) ≡ false → length (include shard_of d p.departures) ≤ 32
-    few d true k q = rw (include-known shard_of d p.departures g.departures.rows.order k) g.departures.count
-    few d false k q = omega (arith, length-include shard_of d p.departures, leb-false 32 (length p.departures) q)
 
 stamp-kept : (shard until : ℕ) (p : Plain) → Good p → Good (after_stamp shard until p).ledger
 unfolding after_stamp
@@ -462,7 +472,7 @@ empty-good local v c l s hv hc hl =
       frame = record { local = s; validity = hv; core_span = hc; leg_span = hl };
       entries = record { count = omega arith; rows = record { each = tt; order = tt } };
       departures = record { count = omega arith; rows = record { each = tt; order = tt } };
-      rebuilt = omega arith;
+      counts = record { count = omega arith; rows = record { each = tt; order = tt } };
     }
 
 -- what a making hands back is good, a refused one's too

@@ -14,7 +14,7 @@ use Rattle.lists.proofs.Keep.{keep_same, every_keep, every_more, every_member, e
 use Rattle.lists.proofs.Order.{every_include_all}
 use Rattle.lists.proofs.Parted.{every_from, get-keep, has-keep, keep-change, change_beside, keep-without, without_beside}
 use Rattle.rules.specs.Numbers.{max_entries}
-use Rattle.rules.specs.Plain.{Entry, Departure, Plain, transaction_of, shard_of, with_entries, with_departures, with_rebuilt, owed, entry_of}
+use Rattle.rules.specs.Plain.{Entry, Departure, Count, Plain, transaction_of, shard_of, with_entries, with_departures, with_counts, owed, entry_of}
 use Rattle.rules.specs.Prune.{stands}
 use Rattle.rules.specs.Outcome.{Outcome, said, done, unless, ◌gives◌then◌}
 use Rattle.rules.specs.Calls.{unowed, no_room_for}
@@ -23,15 +23,16 @@ use Rattle.rules.specs.LeftOut.{Taking, less, Omitted, fallen_in, is_for_room, C
 use Rattle.rules.proofs.Less.{is_left, is_kept, Felled, Beside}
 use Rattle.rules.proofs.Verdicts.{stands_beside}
 
--- a table whose last line wants room: where it does not refuse one ledger for that, it gives the other the same
-pub table_same : (n : ℕ) → is_for_room (suc n) ≡ true → (a c d r s : Bool) → (r ≡ false → s ≡ false) →
-    is_for_room (a gives 5 then c gives 3 then d gives 4 then r gives suc n then 0) ≡ false →
-    a gives 5 then c gives 3 then d gives 4 then s gives suc n then 0 ≡ a gives 5 then c gives 3 then d gives 4 then r gives suc n then 0
-table_same n w true c d r s f h = refl
-table_same n w false true d r s f h = refl
-table_same n w false false true r s f h = refl
-table_same n w false false false true s f h = absurd (false≢true (sym h ∙ w))
-table_same n w false false false false s f h = rw (f refl)
+-- a table with a line that wants room: where it does not refuse one ledger for that, it gives the other the same; m is what the lines
+-- behind give, on both
+pub table_same : (n m : ℕ) → is_for_room (suc n) ≡ true → (a c d r s : Bool) → (r ≡ false → s ≡ false) →
+    is_for_room (a gives 5 then c gives 3 then d gives 4 then r gives suc n then m) ≡ false →
+    a gives 5 then c gives 3 then d gives 4 then s gives suc n then m ≡ a gives 5 then c gives 3 then d gives 4 then r gives suc n then m
+table_same n m w true c d r s f h = refl
+table_same n m w false true d r s f h = refl
+table_same n m w false false true r s f h = refl
+table_same n m w false false false true s f h = absurd (false≢true (sym h ∙ w))
+table_same n m w false false false false s f h = rw (f refl)
 
 -- what is reached with the prunes is what is reached without them, less what the last one took
 pub record Moved (o : Omitted) (fell : Felled) (with without : Plain) : Type 0 where
@@ -71,17 +72,17 @@ module _ (o : Omitted) (fell : Felled) where
     abbrev pub goes : List Entry → List Entry
     goes es = keep (λ e. o.taken.is_fallen (transaction_of e)) es
 
-    -- other entries and another count: of the fallen entries the same, and the others clear
-    pub counted_moved : (n : ℕ) (es fs : List Entry) → Good (with_rebuilt n (with_entries es p)) → stays es ≡ fs → goes es ≡ goes p.entries →
-        Every (Clear k p) fs → Moved o fell (with_rebuilt n (with_entries fs (less k p))) (with_rebuilt n (with_entries es p))
-    counted_moved n es fs g l r c =
+    -- other entries and other counts: of the fallen entries the same, and the others clear
+    pub counted_moved : (cs : List Count) (es fs : List Entry) → Good (with_counts cs (with_entries es p)) → stays es ≡ fs → goes es ≡ goes p.entries →
+        Every (Clear k p) fs → Moved o fell (with_counts cs (with_entries fs (less k p))) (with_counts cs (with_entries es p))
+    counted_moved cs es fs g l r c =
         record {
-          is = ap (λ es. with_rebuilt n (with_entries es (less k p))) (sym l);
+          is = ap (λ es. with_counts cs (with_entries es (less k p))) (sym l);
           beside =
               record {
                 good = g;
                 clear = rw l c;
-                fall = rw r (every_more _ _ (λ e h. stands_beside p es n o.clock e ∙ h) (goes p.entries) b.fall);
+                fall = rw r (every_more _ _ (λ e h. stands_beside p es cs o.clock e ∙ h) (goes p.entries) b.fall);
                 same = rw r b.same;
                 many = rw r b.many;
               };
@@ -89,7 +90,7 @@ module _ (o : Omitted) (fell : Felled) where
 
     pub entries_moved : (es fs : List Entry) → Good (with_entries es p) → stays es ≡ fs → goes es ≡ goes p.entries → Every (Clear k p) fs →
         Moved o fell (with_entries fs (less k p)) (with_entries es p)
-    entries_moved es fs g l r c = counted_moved p.rebuilt es fs g l r c
+    entries_moved es fs g l r c = counted_moved p.counts es fs g l r c
 
     -- one entry changed
     pub change_moved : (x : ℕ) (f : Entry → Entry) → k.is_fallen x ≡ false → ((e : Entry) → transaction_of (f e) ≡ transaction_of e) →

@@ -1,4 +1,4 @@
--- Every good ledger is reached by calls, and every ledger that calls reach is good: what `Good` asks is exact. The running count
+-- Every good ledger is reached by calls, and every ledger that calls reach is good: what `Good` asks is exact. The counts
 -- first, then departures, then entries, each list from its end, so that what comes goes to the front.
 -- Assumes nothing.
 use Prim.Native.Nat.{ℕ, zero, suc, ◌+◌, ◌-◌, ◌≤◌, ◌<◌, min}
@@ -15,13 +15,13 @@ use Rattle.lists.proofs.Tests.{and_false}
 use Rattle.lists.proofs.Keep.{every_append}
 use Rattle.lists.proofs.Order.{above_lacks, include-below}
 use Rattle.lists.proofs.Change.{change_above, change-front}
-use Rattle.rules.specs.Numbers.{is_word, is_time, is_shard, is_span, max_entries, max_departures, max_absences, max_count}
-use Rattle.rules.specs.Plain.{Part, whole, leg, core, remainder, Edge, Terms, Absence, Entry, Departure, Plain, transaction_of, absence_key, shard_of, empty, with_entries, with_departures, with_rebuilt, issues, owes, is_settling}
-use Rattle.rules.specs.Calls.{Call, admission, absence, certify, abandonment, settled, returned, finalization, forget, terminal, step, run, making, stamped, terminal_refusal, after_terminal, certify_refusal, after_certify, absence_refusal, after_absence, abandonment_refusal, after_abandonment, after_mark, after_finalization, admission_refusal, after_admission, after_forget}
+use Rattle.rules.specs.Numbers.{is_word, is_time, is_shard, is_span, max_entries, max_departures, max_absences, max_count, max_counts}
+use Rattle.rules.specs.Plain.{Part, whole, leg, core, remainder, Edge, Terms, Absence, Entry, Departure, Plain, transaction_of, absence_key, shard_of, empty, with_entries, with_departures, with_counts, issues, owes, is_settling, Count, counted_shard}
+use Rattle.rules.specs.Calls.{Call, admission, absence, certify, abandonment, settled, returned, finalization, forget, terminal, step, run, making, stamped, terminal_refusal, after_terminal, certify_refusal, after_certify, absence_refusal, after_absence, abandonment_refusal, after_abandonment, after_mark, after_finalization, admission_refusal, after_admission, after_forget, opened, raised, counted, no_count_for}
 use Rattle.rules.specs.Entries.{entry, admitted, certified, is_read, read_absent, with_departed_by, with_part, marked}
 use Rattle.rules.specs.Words.{admission_words, record_formed, record_timed, record_groups, finalization_formed, finalization_lines, deciding}
 use Rattle.rules.specs.Outcome.{Outcome, unless}
-use Rattle.rules.specs.Good.{GoodTerms, GoodAbsence, Marked, GoodPart, is_departed_by, GoodEntry, GoodStamp, GoodDeparture, Good, OfWords}
+use Rattle.rules.specs.Good.{GoodTerms, GoodAbsence, Marked, GoodPart, is_departed_by, GoodEntry, GoodStamp, GoodDeparture, Good, OfWords, GoodCount}
 use Rattle.rules.specs.Reached.{Leads, Reached}
 use Rattle.rules.proofs.Kept.{run-good, making-good}
 use Rattle.rules.proofs.Written.{shard-word, routes-read, terms-read, core-read, words_formed, words-timed, words_placed, words-words}
@@ -127,12 +127,9 @@ module _ (p : Plain) (t : Terms) (es : List Entry) (low : Above transaction_of t
     all_read (x ∷ cs) v a n = and_then (all_read cs v.1 a.1 (omega arith)) (reads x cs v.0 a.0 (omega arith))
 
   -- a record names it
-  module _ (part : Part) (code : ℕ) (count : p.rebuilt ≤ max_count) where
+  module _ (part : Part) (code : ℕ) where
     abbrev groups : ℕ → List ℕ
     groups shard = 1 ∷ shard ∷ 0 ∷ tx ∷ 0 ∷ 0 ∷ 0 ∷ 0 ∷ []
-
-    same_count : min (p.rebuilt + 0) max_count ≡ p.rebuilt
-    same_count = omega arith
 
     names : (is_good : is_word tx ≡ true) (departed_by : ℕ) → is_departed_by departed_by ≡ true → Leads (front (made part code 0 [] [] false)) (front (made part code departed_by [] [] false))
     unfolding after_abandonment record_formed record_timed record_groups
@@ -141,7 +138,7 @@ module _ (p : Plain) (t : Terms) (es : List Entry) (low : Above transaction_of t
         by (abandonment (groups (suc n))) (refl, (shard-word (suc n) g, (refl, (is_good, (refl, (refl, (refl, (refl, tt))))))))
         (accepted (abandonment_refusal (groups (suc n)) (front (made part code 0 [] [] false))) _ _
         (rw (g, eq-eqb tx tx refl, le-ltb (max_entries - suc (length es)) 0 (omega arith)))
-        ∙ rw (eq-eqb tx tx refl, same_count) (ap (λ m. with_entries (made part code (suc n) [] [] false ∷ m) p) (change_above transaction_of tx (with_departed_by (suc n)) es low)))
+        ∙ rw (eq-eqb tx tx refl) (ap (λ m. with_entries (made part code (suc n) [] [] false ∷ m) p) (change_above transaction_of tx (with_departed_by (suc n)) es low)))
 
   -- records are marked, from the last
   module _ (part : Part) (code departed_by : ℕ) (cs : List Absence) (is_held : is_settling part ≡ true) where
@@ -211,10 +208,10 @@ module _ (p : Plain) (t : Terms) (es : List Entry) (low : Above transaction_of t
     comes_core h = comes 1 refl core (rw (terms-read 1 t, core-read 1 t, h))
 
     -- and is changed to what it is
-    module _ (count : p.rebuilt ≤ max_count) (code departed_by : ℕ) (cs : List Absence) (small : code ≤ 2) (is_named : is_departed_by departed_by ≡ true)
+    module _ (code departed_by : ℕ) (cs : List Absence) (small : code ≤ 2) (is_named : is_departed_by departed_by ≡ true)
         (v : Every GoodAbsence cs) (a : Ascending absence_key cs) (n : length cs ≤ max_absences) where
       dressed : (part : Part) → Leads (front (made part 0 0 [] [] false)) (front (made part code departed_by cs [] false))
-      dressed part = and_then (certifies part code small) (and_then (names part code count g.transaction departed_by is_named) (all_read part code departed_by cs v a n))
+      dressed part = and_then (certifies part code small) (and_then (names part code g.transaction departed_by is_named) (all_read part code departed_by cs v a n))
 
       enters : (part : Part) (ms : List ℕ) (is_returned : Bool) → GoodPart part p.local t ms is_returned → Leads (with_entries es p) (front (made part code departed_by cs ms is_returned))
       enters whole ms b q = rw (q.2.none, q.2.returned) (and_then (comes_whole q.0 q.1) (dressed whole))
@@ -223,27 +220,50 @@ module _ (p : Plain) (t : Terms) (es : List Entry) (low : Above transaction_of t
       enters remainder ms b q =
           and_then (comes_core q.0) (and_then (turns q.1) (and_then (dressed remainder) (all-marked remainder code departed_by cs refl ms b q.2)))
 
-all_enter : (p : Plain) → p.rebuilt ≤ max_count → (es : List Entry) → length es ≤ max_entries → Every (GoodEntry p.local) es → Ascending transaction_of es →
+all_enter : (p : Plain) → (es : List Entry) → length es ≤ max_entries → Every (GoodEntry p.local) es → Ascending transaction_of es →
     Leads (with_entries [] p) (with_entries es p)
-all_enter p count [] n v a = stay (with_entries [] p)
-all_enter p count (e ∷ es) n v a =
+all_enter p [] n v a = stay (with_entries [] p)
+all_enter p (e ∷ es) n v a =
     let g = v.0 in
-    and_then (all_enter p count es (omega arith) v.1 a.1)
-    (enters p e.terms es a.0 g.terms (omega arith) count e.certificate e.departed_by e.absences g.certificate g.departed_by g.absences g.absence_order g.absence_count e.part e.marks e.returned g.part)
+    and_then (all_enter p es (omega arith) v.1 a.1)
+    (enters p e.terms es a.0 g.terms (omega arith) e.certificate e.departed_by e.absences g.certificate g.departed_by g.absences g.absence_order g.absence_count e.part e.marks e.returned g.part)
 
--- The running count: an entry is rebuilt and forgotten, as often as it takes.
-module _ (local v c l : ℕ) where
-  counted : (n : ℕ) → n ≤ max_count → Leads (empty local v c l) (with_rebuilt n (empty local v c l))
+-- Counts: an entry is rebuilt and forgotten, as often as it takes.
+module _ (p : Plain) (bare : p.entries ≡ []) (shard : ℕ) (s : is_shard shard ≡ true) where
+  rebuilds_one : (cs : List Count) → no_count_for shard 1 cs ≡ false → Leads (with_counts cs p) (with_counts (counted shard 1 cs) p)
   unfolding after_abandonment record_formed record_timed record_groups after_forget
-  counted zero h = stay (empty local v c l)
-  counted (suc n) h =
-      let one : min (n + 1) max_count ≡ suc n = omega arith in
-      and_then (counted n (omega arith))
-      (record {
-        calls = abandonment (1 ∷ 1 ∷ 0 ∷ 0 ∷ 0 ∷ 0 ∷ 0 ∷ 0 ∷ []) ∷ forget 0 ∷ [];
-        words = ((refl, (refl, (refl, (refl, (refl, (refl, (refl, (refl, tt)))))))), (tt, tt));
-        leads = ap (λ m. with_rebuilt m (empty local v c l)) one;
-      })
+  rebuilds_one cs room =
+      let ws : List ℕ = 1 ∷ shard ∷ 0 ∷ 0 ∷ 0 ∷ 0 ∷ 0 ∷ 0 ∷ [] in
+      record {
+        calls = abandonment ws ∷ forget 0 ∷ [];
+        words = ((refl, (shard-word shard s, (refl, (refl, (refl, (refl, (refl, (refl, tt)))))))), (tt, tt));
+        leads =
+            ap (λ q. (step (forget 0) q).ledger) (accepted (abandonment_refusal ws (with_counts cs p)) _ _ (rw (s, bare, room))) ∙ rw bare refl;
+      }
+
+  -- a shard below those that are counted
+  module _ (cs : List Count) (low : Above counted_shard shard cs) (few : length cs < max_counts) where
+    lacks : has counted_shard shard cs ≡ false
+    lacks = above_lacks counted_shard shard shard cs (omega arith) low
+
+    reaches : (n : ℕ) → 1 ≤ n → n ≤ max_count → Leads (with_counts cs p) (with_counts (record { shard = shard; rebuilt = n } ∷ cs) p)
+    reaches zero l h = absurd (omega (arith, l))
+    reaches (suc zero) l h =
+        subst (λ ds. Leads (with_counts cs p) (with_counts ds p)) (rw lacks (include-below counted_shard (opened shard 1) cs low))
+        (rebuilds_one cs (rw (lacks, lt-leb max_counts (length cs) few) refl))
+    reaches (suc (suc n)) l h =
+        let c : Count = record { shard = shard; rebuilt = suc n } in
+        let more : min (suc n + 1) max_count ≡ suc (suc n) = omega (arith, h) in
+        and_then (reaches (suc n) (omega arith) (omega (arith, h)))
+        (subst (λ ds. Leads (with_counts (c ∷ cs) p) (with_counts ds p))
+        (rw (eq-eqb shard shard refl, more) (ap (λ ds. record { shard = shard; rebuilt = suc (suc n) } ∷ ds) (change_above counted_shard shard (raised 1) cs low)))
+        (rebuilds_one (c ∷ cs) (rw (eq-eqb shard shard refl) refl)))
+
+all_counted : (p : Plain) → p.entries ≡ [] → (cs : List Count) → length cs ≤ max_counts → Every GoodCount cs → Ascending counted_shard cs →
+    Leads (with_counts [] p) (with_counts cs p)
+all_counted p bare [] n v a = stay (with_counts [] p)
+all_counted p bare (c ∷ cs) n v a =
+    and_then (all_counted p bare cs (omega (arith, n)) v.1 a.1) (reaches p bare c.shard v.0.shard cs a.0 (omega (arith, n)) c.rebuilt v.0.some v.0.few)
 
 -- the ledger of an accepted making
 made-empty : (local v c l : ℕ) → is_shard local ≡ true → is_span v ≡ true → is_span c ≡ true → is_span l ≡ true → (making local v c l).ledger ≡ empty local v c l
@@ -253,12 +273,12 @@ made-empty local v c l a b d e = rw (a, b, d, e)
 pub good_reached : (p : Plain) → Good p → Reached p
 good_reached p g =
     let p₀ = empty p.local p.validity p.core_span p.leg_span in
-    let p₁ = with_rebuilt p.rebuilt p₀ in
+    let p₁ = with_counts p.counts p₀ in
     let p₂ = with_departures p.departures p₁ in
     rw (made-empty p.local p.validity p.core_span p.leg_span g.frame.local g.frame.validity g.frame.core_span g.frame.leg_span)
-    (and_then (counted p.local p.validity p.core_span p.leg_span p.rebuilt g.rebuilt)
+    (and_then (all_counted p₀ refl p.counts g.counts.count g.counts.rows.each g.counts.rows.order)
     (and_then (all_depart p₁ p.departures g.departures.count g.departures.rows.each g.departures.rows.order)
-    (all_enter p₂ g.rebuilt p.entries g.entries.count g.entries.rows.each g.entries.rows.order)))
+    (all_enter p₂ p.entries g.entries.count g.entries.rows.each g.entries.rows.order)))
 
 pub reached_good : (p : Plain) → Reached p → Good p
 reached_good p r = subst Good r.leads (run-good r.calls r.words _ (making-good p.local p.validity p.core_span p.leg_span))

@@ -7,14 +7,14 @@ use mathlib.Core.List.{List, [], ◌∷◌, ◌++◌, map}
 use native.Mathlib.Omega.{arith}
 use borrow.Author.Tests.{leb-true, eqb-true}
 use lib.Dec.{eqb}
-use lib.ListN.{length, replicate, drop, length-map, length-drop, take-append-drop}
+use lib.ListN.{length, drop, length-drop, take-append-drop}
 use lib.Seq.{take_all}
 use Rattle.std.proofs.lemmas.List.{nil_from_length}
 use Rattle.lists.specs.Lists.{concat_map, part}
 use Rattle.lists.proofs.Tests.{and_left}
-use Rattle.lists.proofs.Keep.{every_more, each_of}
+use Rattle.lists.proofs.Keep.{each_of}
 use Rattle.lists.proofs.Cuts.{part_length}
-use Rattle.lists.proofs.Joined.{part_then, word_then, length_rows, total-replicate, joined_again, every_row, map_back}
+use Rattle.lists.proofs.Joined.{part_then, word_then, every_pair, length_read, rows_again}
 use Rattle.rules.specs.Plain.{Part, whole, leg, core, remainder, part_number, Terms}
 use Rattle.rules.specs.Words.{word, decomposed, admission_words}
 use Rattle.rules.specs.Outcome.{yes_no}
@@ -41,12 +41,6 @@ decomposed-again leg local d t h = sym (eqb-true d 1 (and_left (eqb d 1) _ h))
 decomposed-again core local d t h = sym (eqb-true d 1 (and_left (eqb d 1) _ h))
 decomposed-again remainder local d t h = sym (eqb-true d 1 (and_left (eqb d 1) _ h))
 
-absence-again : (m : List ℕ) → length m ≡ 2 → absence_words (absence_in m) ≡ m
-absence-again [] h = absurd (omega (arith, h))
-absence-again (x ∷ []) h = absurd (omega (arith, h))
-absence-again (x ∷ y ∷ []) h = refl
-absence-again (x ∷ y ∷ z ∷ m) h = absurd (omega (arith, h))
-
 -- A history.
 module _ (hs : List ℕ) (size : length hs ≡ history_length hs) where
   abbrev n : ℕ
@@ -54,9 +48,7 @@ module _ (hs : List ℕ) (size : length hs ≡ history_length hs) where
 
   absences-again : concat_map absence_words (map absence_in (absence_parts hs)) ≡ part 5 (2 * n) hs
   absences-again =
-      let same = map_back absence_in absence_words (absence_parts hs)
-      (every_more (λ m. length m ≡ 2) (λ m. absence_words (absence_in m) ≡ m) absence-again (absence_parts hs) (every_row 2 n (drop 5 hs) (omega (arith, size, length-drop 5 hs)))) in
-      joined_again absence_words (map absence_in (absence_parts hs)) (replicate n 2) (drop 5 hs) same ∙ ap (λ k. part 5 k hs) (total-replicate n 2)
+      rows_again absence_in 2 n (drop 5 hs) absence_words (every_pair n (drop 5 hs) (omega (arith, size, length-drop 5 hs)))
 
   at-marks : drop (marks_at hs + 1) hs ≡ marks_in hs
   at-marks = sym (take_all (mark_count hs) (drop (marks_at hs + 1) hs) (omega (arith, size, length-drop (marks_at hs + 1) hs)))
@@ -72,8 +64,7 @@ module _ (hs : List ℕ) (size : length hs ≡ history_length hs) where
       rw (
         number-again (word 0 hs) h,
         yes_no-again (word 3 hs) k,
-        length-map (absence_parts hs) absence_in,
-        length_rows 2 n (drop 5 hs),
+        length_read absence_in 2 n (drop 5 hs),
         absences-again,
         part_length (marks_at hs + 1) (mark_count hs) hs (omega (arith, size)),
       ) (sym (w 0 _ (omega arith) (w 1 _ (omega arith) (w 2 _ (omega arith) (w 3 _ (omega arith) (w 4 _ (omega arith) at-absences))))))

@@ -1,23 +1,24 @@
--- One entry and one departure of a snapshot: what words that the reader lets pass give is good.
+-- One entry, one departure and one count of a snapshot: what words that the reader lets pass give is good.
 -- Assumes nothing.
-use Prim.Native.Nat.{ℕ, zero, suc, ◌+◌, ◌≤◌}
+use Prim.Native.Nat.{ℕ, zero, suc, ◌+◌, ◌^◌, ◌≤◌}
 use mathlib.Core.Path.{◌≡◌}
 use mathlib.Core.Bool.{Bool, true}
 use mathlib.Core.List.{List, [], ◌∷◌}
 use native.Mathlib.Omega.{arith}
-use borrow.Author.Tests.{leb-true, ne_eqb}
+use borrow.Author.Tests.{leb-true, ltb-true, ne_eqb}
 use lib.Dec.{eqb, leb}
-use lib.ListN.{length, drop, replicate, length-map}
+use lib.ListN.{length, drop, replicate}
 use Rattle.lists.specs.Lists.{all, Every, ascending}
 use Rattle.lists.proofs.Keep.{every_all, every_map, every_unmap, every_more, Passed, each_of}
 use Rattle.lists.proofs.Order.{ascending_test}
 use Rattle.lists.proofs.Parts.{every_take, every_drop, every_both}
-use Rattle.lists.proofs.Joined.{length_rows, every_piece}
+use Rattle.lists.proofs.Tests.{and_left, and_right}
+use Rattle.lists.proofs.Joined.{length_read, every_piece}
 use Rattle.rules.specs.Numbers.{is_word, is_time, is_shard}
 use Rattle.rules.specs.Plain.{Absence, absence_key}
 use Rattle.rules.specs.Words.{word, within, route_count, core_count, edge_count, sizes, decomposed, admission_formed, admission_timed, admission_placed}
-use Rattle.rules.specs.Good.{Holds, GoodAbsence, is_departed_by, GoodEntry, GoodStamp, GoodDeparture}
-use Rattle.rules.specs.Snapshot.{admission_length, admission_of, history_of, absence_count, mark_count, history_length, absence_parts, absence_in, entry_in, stamp_in, departure_in, entry_formed, part_fits, marks_fit, entry_sound, until_fits, departure_sound}
+use Rattle.rules.specs.Good.{Holds, GoodAbsence, is_departed_by, GoodEntry, GoodStamp, GoodDeparture, GoodCount}
+use Rattle.rules.specs.Snapshot.{admission_length, admission_of, history_of, absence_count, mark_count, history_length, absence_parts, absence_in, entry_in, stamp_in, departure_in, count_in, entry_formed, part_fits, marks_fit, entry_sound, until_fits, departure_sound, count_sound}
 use Rattle.rules.proofs.SnapshotParts.{part-good}
 use Rattle.rules.proofs.Taken.{words-at, formed, terms-good}
 
@@ -67,12 +68,7 @@ module _ (local : ℕ) (ws : List ℕ) (v : Every (Holds is_word) ws) (f : entry
   few_absences : length (entry_in ws).absences ≤ 8
   unfolding entry_in
   few_absences =
-      omega (
-        arith,
-        leb-true (absence_count hs) 8 (form_passed ws f).1.1.1.1.0,
-        length-map (absence_parts hs) absence_in,
-        length_rows 2 (absence_count hs) (drop 5 hs),
-      )
+      omega (arith, leb-true (absence_count hs) 8 (form_passed ws f).1.1.1.1.0, length_read absence_in 2 (absence_count hs) (drop 5 hs))
 
   absences-good : Every GoodAbsence (entry_in ws).absences
   unfolding entry_in
@@ -107,3 +103,12 @@ departure-good ws h =
     go : (n until : ℕ) → until_fits n until ≡ true → GoodStamp (stamp_in n until)
     go zero until h = tt
     go (suc n) until h = rw (ne_eqb (suc n) 0 (λ e. omega (arith, e))) h
+
+-- a count
+pub count-good : (ws : List ℕ) → Every (Holds is_word) ws → count_sound ws ≡ true → GoodCount (count_in ws)
+count-good ws v h =
+    record {
+      shard = and_left (is_shard (word 0 ws)) (leb 1 (word 1 ws)) h;
+      some = leb-true 1 (word 1 ws) (and_right (is_shard (word 0 ws)) (leb 1 (word 1 ws)) h);
+      few = omega (arith, ltb-true (word 1 ws) (2 ^ 64) (words-at 1 ws v));
+    }

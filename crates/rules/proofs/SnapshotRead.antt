@@ -1,4 +1,4 @@
--- One entry and one departure of a snapshot, written and read: they pass and are what was written.
+-- One entry, one departure and one count of a snapshot, written and read: they pass and are what was written.
 -- Assumes nothing.
 use Prim.Native.Nat.{ℕ, ◌+◌, ◌*◌}
 use mathlib.Core.Path.{◌≡◌, refl, sym, ap, ◌∙◌, subst}
@@ -11,16 +11,17 @@ use lib.Dec.{leb}
 use lib.ListN.{length, drop, length-append}
 use lib.Seq.{take-append_seam, drop-append_seam, take_all}
 use Rattle.lists.specs.Lists.{all, ascending, concat_map}
-use Rattle.lists.proofs.Keep.{all_every, every_always, every_map, every_more, all_passed}
+use Rattle.lists.proofs.Tests.{and_both}
+use Rattle.lists.proofs.Keep.{all_every, every_map, every_more, all_passed}
 use Rattle.lists.proofs.Order.{test_ascending}
 use Rattle.lists.proofs.Cuts.{rest_tail}
 use Rattle.lists.proofs.Listing.{length-words}
-use Rattle.lists.proofs.Joined.{behind, word_at, part_append, rows_joined, map_back}
+use Rattle.lists.proofs.Joined.{word_at, part_append, rows_joined, behind_rows, map_read}
 use Rattle.rules.specs.Numbers.{is_shard}
-use Rattle.rules.specs.Plain.{Terms, Absence, Entry, Departure, absence_key}
+use Rattle.rules.specs.Plain.{Terms, Absence, Entry, Departure, Count, absence_key}
 use Rattle.rules.specs.Words.{sizes, edges_at, decomposed, admission_words}
-use Rattle.rules.specs.Good.{GoodAbsence, is_departed_by, GoodEntry, GoodStamp, GoodDeparture}
-use Rattle.rules.specs.Snapshot.{decomposed_word, absence_words, history_words, entry_words, stamp_words, departure_words, admission_length, admission_of, history_of, mark_count, history_length, absence_parts, marks_in, absence_in, entry_in, departure_in, entry_formed, part_fits, marks_fit, entry_sound, departure_sound}
+use Rattle.rules.specs.Good.{GoodAbsence, is_departed_by, GoodEntry, GoodStamp, GoodDeparture, GoodCount}
+use Rattle.rules.specs.Snapshot.{decomposed_word, absence_words, history_words, entry_words, stamp_words, departure_words, count_words, admission_length, admission_of, history_of, mark_count, history_length, absence_parts, marks_in, absence_in, entry_in, departure_in, entry_formed, part_fits, marks_fit, entry_sound, departure_sound, count_sound}
 use Rattle.rules.proofs.Written.{size_of, sizes-within, sizes-read, size_is, terms-read, words_formed, words-timed, words_placed}
 use Rattle.rules.proofs.SnapshotParts.{part-read, part-number, flag-read, flag-number, few_marks, decomposed-number, part-fits, marks-fit}
 use Rattle.rules.proofs.SnapshotEntry.{form_tests, rest_tests}
@@ -55,7 +56,7 @@ module _ (e : Entry) where
   two = length-words absence_words 2 (λ x. refl) e.absences
 
   at-marks : drop (5 + 2 * n) hs ≡ length e.marks ∷ e.marks
-  at-marks = rw two at (behind 5 hs (concat_map absence_words e.absences) (length e.marks ∷ e.marks) refl)
+  at-marks = behind_rows absence_words 2 (λ x. refl) 5 hs e.absences (length e.marks ∷ e.marks) refl
 
   mark_count-read : mark_count hs ≡ length e.marks
   mark_count-read = word_at (5 + 2 * n) hs (length e.marks) e.marks at-marks
@@ -65,8 +66,8 @@ module _ (e : Entry) where
 
   absences-read : map absence_in (absence_parts hs) ≡ e.absences
   absences-read =
-      ap (map absence_in) (rows_joined absence_words 2 (λ x. refl) e.absences (length e.marks ∷ e.marks))
-      ∙ map_back absence_words absence_in e.absences (every_always (λ x. absence_in (absence_words x) ≡ x) (λ x. refl) e.absences)
+      map_read absence_words absence_in (λ x. refl) e.absences (absence_parts hs)
+      (rows_joined absence_words 2 (λ x. refl) e.absences (length e.marks ∷ e.marks))
 
   pub history-length : length hs ≡ 6 + 2 * n + length e.marks
   history-length = omega (arith, two, length-append (concat_map absence_words e.absences) (length e.marks ∷ e.marks))
@@ -197,3 +198,7 @@ departure-sound d g = go d.stamp g.stamp
     go : (s : Option ℕ) → GoodStamp s → departure_sound (d.shard ∷ d.cut ∷ stamp_words s) ≡ true
     go none h = rw (g.shard, g.cut)
     go (some until) h = rw (g.shard, g.cut, h)
+
+-- a count
+pub count-sound : (c : Count) → GoodCount c → count_sound (count_words c) ≡ true
+count-sound c g = and_both (is_shard c.shard) (leb 1 c.rebuilt) g.shard (le-leb 1 c.rebuilt g.some)

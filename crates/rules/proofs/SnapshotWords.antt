@@ -1,4 +1,4 @@
--- The words of a snapshot are words, and there are at most 5,895 of them: 119 of an entry, 4 of a departure.
+-- The words of a snapshot are words, and there are at most 5,959 of them: 119 of an entry, 4 of a departure, 2 of a count.
 -- Assumes nothing.
 use Prim.Native.Nat.{ℕ, zero, suc, ◌^◌, ◌≤◌}
 use mathlib.Core.Path.{◌≡◌, refl}
@@ -12,14 +12,15 @@ use lib.ListN.{length, length-map, length-append}
 use Rattle.std.proofs.lemmas.Nat.{mod_below}
 use Rattle.lists.specs.Lists.{Every, concat_map}
 use Rattle.lists.proofs.Tests.{and_right}
-use Rattle.lists.proofs.Keep.{all_every, every_always, every_map, every_more, every_append, every_concat_map, every-has}
+use Rattle.lists.proofs.Keep.{all_every, passes_each, every_always, every_map, every_more, every_append, every_joined, every-has}
 use Rattle.lists.proofs.Cuts.{total-within}
 use Rattle.rules.specs.Numbers.{is_word, is_span, record_key}
-use Rattle.rules.specs.Plain.{Part, whole, leg, core, remainder, part_number, Edge, Terms, Entry, Departure, Plain, edges_from, issued, issues}
+use Rattle.rules.specs.Plain.{Part, whole, leg, core, remainder, part_number, Edge, Terms, Entry, Departure, Count, Plain, edges_from, issued, issues}
 use Rattle.rules.specs.Words.{admission_words}
+use Rattle.rules.specs.Widths.{entry_room, snapshot_room}
 use Rattle.rules.specs.Outcome.{yes_no}
-use Rattle.rules.specs.Good.{Holds, GoodAbsence, GoodPart, is_departed_by, GoodEntry, GoodStamp, GoodDeparture, Good}
-use Rattle.rules.specs.Snapshot.{decomposed_word, absence_words, history_words, entry_words, stamp_words, departure_words, snapshot_words}
+use Rattle.rules.specs.Good.{Holds, GoodAbsence, GoodPart, is_departed_by, GoodEntry, GoodStamp, GoodDeparture, GoodCount, Good}
+use Rattle.rules.specs.Snapshot.{decomposed_word, absence_words, history_words, entry_words, stamp_words, departure_words, count_words, listed_words, snapshot_words}
 use Rattle.rules.proofs.Written.{small_word, time_word, shard-word, size_of, sizes-within, size_is, words-words}
 use Rattle.rules.proofs.SnapshotParts.{decomposed-number, part-number, flag-number, few_marks}
 use Rattle.rules.proofs.SnapshotRead.{history-length}
@@ -61,8 +62,7 @@ module _ (local : ℕ) (e : Entry) (g : GoodEntry local e) where
 
   absences-words : Every (Holds is_word) absences
   absences-words =
-      every_concat_map (Holds is_word) absence_words e.absences
-      (every_more GoodAbsence (λ x. Every (Holds is_word) (absence_words x)) (λ x h. (shard-word x.shard h.shard, (h.key, tt))) e.absences g.absences)
+      every_joined GoodAbsence (Holds is_word) absence_words (λ x h. (shard-word x.shard h.shard, (h.key, tt))) e.absences g.absences
 
   history-words : Every (Holds is_word) (history_words e)
   history-words = (
@@ -101,7 +101,7 @@ module _ (local : ℕ) (e : Entry) (g : GoodEntry local e) where
         total-within 4 sizes (all_every (λ n. leb n 4) sizes (every_map size_of (λ n. leb n 4 ≡ true) e.terms.edges (sizes-within e.terms.edges g.terms.edges))),
       )
 
-  pub entry-few : length (entry_words e) ≤ 119
+  pub entry-few : length (entry_words e) ≤ entry_room
   unfolding entry_words
   entry-few = omega (arith, admission-few, few, g.absence_count, history-length e, length-append a (history_words e))
 
@@ -113,6 +113,10 @@ departure_is_words d g = (shard-word d.shard g.shard, (time_word d.cut g.cut, go
     go none h = (refl, (refl, tt))
     go (some until) h = (refl, (time_word until h, tt))
 
+-- a count
+count_is_words : (c : Count) → GoodCount c → Every (Holds is_word) (count_words c)
+count_is_words c g = (shard-word c.shard g.shard, (lt-ltb c.rebuilt (2 ^ 64) (omega (arith, g.few)), tt))
+
 -- the whole
 module _ (p : Plain) (g : Good p) where
   abbrev words_of : Entry → ℕ
@@ -121,19 +125,41 @@ module _ (p : Plain) (g : Good p) where
   abbrev sizes : List ℕ
   sizes = map words_of p.entries
 
-  sizes-few : Every (λ e. leb (words_of e) 119 ≡ true) p.entries
-  sizes-few = every_more (GoodEntry p.local) (λ e. leb (words_of e) 119 ≡ true) (λ e h. le-leb (words_of e) 119 (entry-few p.local e h)) p.entries g.entries.rows.each
+  few_words : (e : Entry) → GoodEntry p.local e → leb (words_of e) entry_room ≡ true
+  few_words e h = le-leb (words_of e) entry_room (entry-few p.local e h)
 
-  pub snapshot-few : length (snapshot_words p) ≤ 5895
+  pub snapshot-few : length (snapshot_words p) ≤ snapshot_room
   snapshot-few =
       omega (
         arith,
         snapshot-length p,
         g.entries.count,
         g.departures.count,
+        g.counts.count,
         length-map p.entries words_of,
-        total-within 119 sizes (all_every (λ n. leb n 119) sizes (every_map words_of (λ n. leb n 119 ≡ true) p.entries sizes-few)),
+        total-within entry_room sizes (passes_each words_of (GoodEntry p.local) (λ n. leb n entry_room) few_words p.entries g.entries.rows.each),
       )
+
+  counts-words : Every (Holds is_word) (concat_map count_words p.counts)
+  counts-words = every_joined GoodCount (Holds is_word) count_words count_is_words p.counts g.counts.rows.each
+
+  sizes-words : Every (Holds is_word) sizes
+  sizes-words =
+      every_map words_of (Holds is_word) p.entries
+      (every_more (GoodEntry p.local) (λ e. is_word (words_of e) ≡ true) (λ e h. small_word (words_of e) (omega (arith, entry-few p.local e h))) p.entries g.entries.rows.each)
+
+  listed_is_words : Every (Holds is_word) (listed_words p.entries p.departures)
+  listed_is_words = (
+    small_word (length p.entries) (omega (arith, g.entries.count)),
+    (
+      small_word (length p.departures) (omega (arith, g.departures.count)),
+      every_append (Holds is_word) sizes (concat_map entry_words p.entries ++ concat_map departure_words p.departures)
+          sizes-words
+          (every_append (Holds is_word) (concat_map entry_words p.entries) (concat_map departure_words p.departures)
+          (every_joined (GoodEntry p.local) (Holds is_word) entry_words (entry_is_words p.local) p.entries g.entries.rows.each)
+          (every_joined GoodDeparture (Holds is_word) departure_words departure_is_words p.departures g.departures.rows.each)),
+    ),
+  )
 
   pub snapshot_is_words : Every (Holds is_word) (snapshot_words p)
   unfolding snapshot_words
@@ -146,21 +172,8 @@ module _ (p : Plain) (g : Good p) where
         (
           span_word p.leg_span g.frame.leg_span,
           (
-            lt-ltb p.rebuilt (2 ^ 64) (omega (arith, g.rebuilt)),
-            (
-              small_word (length p.entries) (omega (arith, g.entries.count)),
-              (
-                small_word (length p.departures) (omega (arith, g.departures.count)),
-                every_append (Holds is_word) sizes (concat_map entry_words p.entries ++ concat_map departure_words p.departures)
-                    (every_map words_of (Holds is_word) p.entries
-                    (every_more (λ e. leb (words_of e) 119 ≡ true) (λ e. is_word (words_of e) ≡ true) (λ e h. small_word (words_of e) (leb-true (words_of e) 119 h)) p.entries sizes-few))
-                    (every_append (Holds is_word) (concat_map entry_words p.entries) (concat_map departure_words p.departures)
-                    (every_concat_map (Holds is_word) entry_words p.entries
-                    (every_more (GoodEntry p.local) (λ e. Every (Holds is_word) (entry_words e)) (entry_is_words p.local) p.entries g.entries.rows.each))
-                    (every_concat_map (Holds is_word) departure_words p.departures
-                    (every_more GoodDeparture (λ d. Every (Holds is_word) (departure_words d)) departure_is_words p.departures g.departures.rows.each))),
-              ),
-            ),
+            small_word (length p.counts) (omega (arith, g.counts.count)),
+            every_append (Holds is_word) (concat_map count_words p.counts) (listed_words p.entries p.departures) counts-words listed_is_words,
           ),
         ),
       ),

@@ -1,4 +1,4 @@
--- What a verdict reads: neither the other entries nor the count; at a later clock no more stands, nor by a stamp; a new departure that the entry
+-- What a verdict reads: neither the other entries nor the counts; at a later clock no more stands, nor by a stamp; a new departure that the entry
 -- does not hold changes nothing.
 -- Assumes nothing.
 use Prim.Native.Nat.{ℕ, ◌≤◌}
@@ -14,18 +14,18 @@ use Rattle.lists.proofs.Tests.{or_left, or_right}
 use Rattle.lists.proofs.Keep.{any_more, any_same}
 use Rattle.lists.proofs.Order.{keep-include}
 use Rattle.lists.proofs.Distinct.{or_not_left, or_not_right}
-use Rattle.rules.specs.Plain.{Entry, Departure, Plain, shard_of, remote, with_entries, with_departures, with_rebuilt}
+use Rattle.rules.specs.Plain.{Entry, Departure, Count, Plain, shard_of, remote, with_entries, with_departures, with_counts}
 use Rattle.rules.proofs.Over.{over_route, same_over}
 use Rattle.rules.specs.Over.{over, counts_before, earlier, smallest_cut, departure_over}
 use Rattle.rules.specs.Prune.{readable_until, readable, is_of_departed_by, answerable, leg_horizon, validity_horizon, Rule, awaiting, settling, recorded, answering, expiring, rule_of, stands_by, stands, holds}
 use Rattle.rules.specs.Calls.{first_stamp, stamped}
 use Rattle.lists.proofs.Parted.{keep-change_if, none_member, lacking_every}
 
--- a verdict reads neither the other entries nor the count
-pub stands_beside : (p : Plain) (es : List Entry) (n u : ℕ) (e : Entry) → stands (with_rebuilt n (with_entries es p)) u e ≡ stands p u e
-stands_beside p es n u e = by (rule_of p.local e)
+-- a verdict reads neither the other entries nor the counts
+pub stands_beside : (p : Plain) (es : List Entry) (cs : List Count) (u : ℕ) (e : Entry) → stands (with_counts cs (with_entries es p)) u e ≡ stands p u e
+stands_beside p es cs u e = by (rule_of p.local e)
   where
-    by : (r : Rule) → stands_by r (with_rebuilt n (with_entries es p)) u e ≡ stands_by r p u e
+    by : (r : Rule) → stands_by r (with_counts cs (with_entries es p)) u e ≡ stands_by r p u e
     by awaiting = refl
     by settling = refl
     by recorded = refl

@@ -3,8 +3,8 @@
 use Rattle.std.specs.Prelude.{ℕ, ◌+◌, ◌-◌, min, Bool, true, false, cond, not, ◌&&◌, ◌||◌, List, [], ◌∷◌, ◌++◌, map, eqb, ltb, leb, length}
 use Rattle.std.proofs.Math.Option.{Option, none, some}
 use Rattle.lists.specs.Lists.{keep, all_of, has, include, without, change, through, tally, total, self, concat_map, set_of}
-use Rattle.rules.specs.Numbers.{is_time, is_shard, is_span, max_entries, max_absences, max_departures, max_count}
-use Rattle.rules.specs.Plain.{Terms, Absence, Entry, Departure, Plain, is_leg, transaction_of, shard_of, empty, with_entries, with_departures, with_rebuilt, owed, entry_of}
+use Rattle.rules.specs.Numbers.{is_time, is_shard, is_span, max_entries, max_absences, max_departures, max_counts, max_count}
+use Rattle.rules.specs.Plain.{Terms, Absence, Entry, Departure, Count, Plain, is_leg, transaction_of, shard_of, counted_shard, empty, with_entries, with_departures, with_counts, owed, entry_of}
 use Rattle.rules.specs.Words.{word, transaction_size, transaction_at, transaction_words, admission_terms, admission_formed, admission_timed, admission_placed, record_shard, record_groups, record_formed, record_timed, finalization_lines, deciding, finalization_formed, Item, is_kind, bundle_whole, bundle_known, bundle_measured, bundle_items}
 use Rattle.rules.specs.Entries.{admitted, is_read, read_absent, certified, marked, is_closed, closing_decision, with_groups, rebuilt_by, with_lines, released_by}
 use Rattle.rules.specs.Prune.{report_words, fallen, reports, pruned}
@@ -71,20 +71,41 @@ unfoldable pub after_certify : ℕ → ℕ → Plain → Outcome
 after_certify t code p =
     unless (certify_refusal code) p (done [] (with_entries (change transaction_of t (certified code) p.entries) p))
 
--- Abandonment record. The running count of rebuilt entries stops at 2^64 − 1.
+-- Abandonment record. What it rebuilds is counted with its shard: each count stops at 2^64 − 1. A record that rebuilds nothing opens none.
+abbrev pub raised : ℕ → Count → Count
+raised n c = record { shard = c.shard; rebuilt = min (c.rebuilt + n) max_count }
+
+abbrev pub opened : ℕ → ℕ → Count
+opened shard n = record { shard = shard; rebuilt = min n max_count }
+
+abbrev pub counted : ℕ → ℕ → List Count → List Count
+counted shard n cs =
+    cond (eqb n 0) cs
+    (cond (has counted_shard shard cs)
+    (change counted_shard shard (raised n) cs)
+    (include counted_shard (opened shard n) cs))
+
+-- 14: an entry would be rebuilt, the shard has no count yet, 32 stand
+abbrev pub no_count_for : ℕ → ℕ → List Count → Bool
+no_count_for shard n cs = ltb 0 n && (not (has counted_shard shard cs) && leb max_counts (length cs))
+
+-- how many entries the record rebuilds
+abbrev pub rebuilds : List ℕ → Plain → ℕ
+rebuilds ws p = rebuilt_by (record_shard ws) (record_groups ws) p.entries
+
 abbrev pub abandonment_refusal : List ℕ → Plain → ℕ
 abandonment_refusal ws p =
     not (record_formed ws) gives 5 then
     not (record_timed ws) gives 3 then
     not (is_shard (record_shard ws)) gives 4 then
-    no_room_for (map (λ (g : Terms). g.transaction) (record_groups ws)) p gives 6 then 0
+    no_room_for (map (λ (g : Terms). g.transaction) (record_groups ws)) p gives 6 then
+    no_count_for (record_shard ws) (rebuilds ws p) p.counts gives 14 then 0
 
 unfoldable pub after_abandonment : List ℕ → Plain → Outcome
 after_abandonment ws p =
-    let n : ℕ = rebuilt_by (record_shard ws) (record_groups ws) p.entries in
     unless (abandonment_refusal ws p) p
-    (done (n ∷ [])
-    (with_rebuilt (min (p.rebuilt + n) max_count)
+    (done (rebuilds ws p ∷ [])
+    (with_counts (counted (record_shard ws) (rebuilds ws p) p.counts)
     (with_entries (with_groups (record_shard ws) (record_groups ws) p.entries) p)))
 
 -- Settled and returned

@@ -2,8 +2,8 @@
 use Rattle.std.specs.Prelude.{ℕ, zero, suc, ◌≤◌, ◌≡◌, Bool, true, false, List, [], length}
 use Rattle.std.proofs.Math.Option.{Option, none, some}
 use Rattle.lists.specs.Lists.{Every, Ascending, has, filled, self}
-use Rattle.rules.specs.Numbers.{is_word, is_time, is_shard, is_span, max_entries, max_departures, max_routes, max_core, max_edges, max_destinations, max_absences, max_count}
-use Rattle.rules.specs.Plain.{Part, whole, leg, core, remainder, Edge, Terms, Absence, Entry, Departure, Plain, transaction_of, absence_key, shard_of, issues, owes}
+use Rattle.rules.specs.Numbers.{is_word, is_time, is_shard, is_span, max_entries, max_departures, max_routes, max_core, max_edges, max_destinations, max_absences, max_counts, max_count}
+use Rattle.rules.specs.Plain.{Part, whole, leg, core, remainder, Edge, Terms, Absence, Entry, Departure, Count, Plain, transaction_of, absence_key, shard_of, counted_shard, issues, owes}
 use Rattle.rules.specs.Calls.{Call, admission, absence, certify, abandonment, settled, returned, closes, fated, finalization, forget, terminal, stamp, prune, bundle}
 
 abbrev pub Holds : (ℕ → Bool) → ℕ → Type 0
@@ -80,6 +80,12 @@ pub record GoodDeparture (d : Departure) : Type 0 where
   pub cut : is_time d.cut ≡ true
   pub stamp : GoodStamp d.stamp
 
+-- a count stands only once an entry was rebuilt
+pub record GoodCount (c : Count) : Type 0 where
+  pub shard : is_shard c.shard ≡ true
+  pub some : 1 ≤ c.rebuilt
+  pub few : c.rebuilt ≤ max_count
+
 -- rows of a file: each is good, and they lie by rising key, none twice
 pub record GoodRows {A : Type 0} (key_of : A → ℕ) (Each : A → Type 0) (l : List A) : Type 0 where
   pub each : Every Each l
@@ -96,6 +102,9 @@ GoodEntries local es = GoodFile transaction_of (GoodEntry local) max_entries es
 abbrev pub GoodDepartures : List Departure → Type 0
 GoodDepartures ds = GoodFile shard_of GoodDeparture max_departures ds
 
+abbrev pub GoodCounts : List Count → Type 0
+GoodCounts cs = GoodFile counted_shard GoodCount max_counts cs
+
 -- what a making sets and no call changes
 pub record GoodFrame (home v c l : ℕ) : Type 0 where
   pub local : is_shard home ≡ true
@@ -108,7 +117,7 @@ pub record Good (p : Plain) : Type 0 where
   pub frame : GoodFrame p.local p.validity p.core_span p.leg_span
   pub entries : GoodEntries p.local p.entries
   pub departures : GoodDepartures p.departures
-  pub rebuilt : p.rebuilt ≤ max_count
+  pub counts : GoodCounts p.counts
 
 -- of a call's numbers, those that the ledger keeps and the table does not check are words
 abbrev pub OfWords : Call → Type 0

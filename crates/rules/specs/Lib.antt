@@ -18,4 +18,5 @@ pub mod Bundles
 pub mod Showing
 pub mod Instances
 pub mod Choices
+pub mod Counts
 pub mod Snapshots

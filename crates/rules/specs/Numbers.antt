@@ -81,6 +81,10 @@ max_pairs = 384
 abbrev pub max_depth : ℕ
 max_depth = 32
 
--- the running count of rebuilt entries stops here
+-- shards with a count of rebuilt entries
+abbrev pub max_counts : ℕ
+max_counts = 32
+
+-- a count of rebuilt entries stops here, and so does their sum
 abbrev pub max_count : ℕ
 max_count = 2 ^ 64 - 1

@@ -74,7 +74,12 @@ pub record Departure : Type 0 where
   pub cut : ℕ
   pub stamp : Option ℕ
 
--- validity, core_span and leg_span are V, C and L; entries by rising transaction, departures by rising shard
+-- how many entries the records of a shard rebuilt
+pub record Count : Type 0 where
+  pub shard : ℕ
+  pub rebuilt : ℕ
+
+-- validity, core_span and leg_span are V, C and L; entries by rising transaction, departures and counts by rising shard
 pub record Plain : Type 0 where
   pub local : ℕ
   pub validity : ℕ
@@ -82,7 +87,7 @@ pub record Plain : Type 0 where
   pub leg_span : ℕ
   pub entries : List Entry
   pub departures : List Departure
-  pub rebuilt : ℕ
+  pub counts : List Count
 
 -- Each kind of list has its key, by which it rises.
 abbrev pub transaction_of : Entry → ℕ
@@ -95,10 +100,13 @@ absence_key a = a.shard * 2 ^ 64 + a.key
 abbrev pub shard_of : Departure → ℕ
 shard_of d = d.shard
 
+abbrev pub counted_shard : Count → ℕ
+counted_shard c = c.shard
+
 -- the ledger that a making hands back
 abbrev pub empty : ℕ → ℕ → ℕ → ℕ → Plain
 empty local v c l =
-    record { local = local; validity = v; core_span = c; leg_span = l; entries = []; departures = []; rebuilt = 0 }
+    record { local = local; validity = v; core_span = c; leg_span = l; entries = []; departures = []; counts = [] }
 
 abbrev pub with_entries : List Entry → Plain → Plain
 with_entries es p =
@@ -109,7 +117,7 @@ with_entries es p =
       leg_span = p.leg_span;
       entries = es;
       departures = p.departures;
-      rebuilt = p.rebuilt;
+      counts = p.counts;
     }
 
 abbrev pub with_departures : List Departure → Plain → Plain
@@ -121,11 +129,11 @@ with_departures ds p =
       leg_span = p.leg_span;
       entries = p.entries;
       departures = ds;
-      rebuilt = p.rebuilt;
+      counts = p.counts;
     }
 
-abbrev pub with_rebuilt : ℕ → Plain → Plain
-with_rebuilt n p =
+abbrev pub with_counts : List Count → Plain → Plain
+with_counts cs p =
     record {
       local = p.local;
       validity = p.validity;
@@ -133,7 +141,7 @@ with_rebuilt n p =
       leg_span = p.leg_span;
       entries = p.entries;
       departures = p.departures;
-      rebuilt = n;
+      counts = cs;
     }
 
 -- a transaction is owed while it has an entry

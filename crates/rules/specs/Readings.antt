@@ -1,14 +1,14 @@
 -- Paper, 'Readings': every list and lookup, with its line of the refusal table. None changes the ledger.
-use Rattle.std.specs.Prelude.{ℕ, ◌+◌, Bool, true, false, cond, not, ◌&&◌, ◌||◌, List, [], ◌∷◌, ◌++◌, map, eqb, ltb, leb, length}
+use Rattle.std.specs.Prelude.{ℕ, ◌+◌, min, Bool, true, false, cond, not, ◌&&◌, ◌||◌, List, [], ◌∷◌, ◌++◌, map, eqb, ltb, leb, length}
 use Rattle.std.proofs.Math.Option.{Option, none, some}
-use Rattle.lists.specs.Lists.{keep, any, filled, concat_map, set_of}
-use Rattle.rules.specs.Numbers.{is_time, is_shard, record_key, cell_key, shard_for_route, max_depth}
-use Rattle.rules.specs.Plain.{Edge, Entry, Plain, is_core, is_settling, transaction_of, shard_of, owed, entry_of, edges_from, is_named, is_covered, remote}
+use Rattle.lists.specs.Lists.{keep, any, filled, total, concat_map, set_of}
+use Rattle.rules.specs.Numbers.{is_time, is_shard, record_key, cell_key, shard_for_route, max_depth, max_count}
+use Rattle.rules.specs.Plain.{Edge, Entry, Count, Plain, is_core, is_settling, transaction_of, shard_of, owed, entry_of, edges_from, is_named, is_covered, remote}
 use Rattle.rules.specs.Words.{transaction_words}
 use Rattle.rules.specs.Index.{index, names}
 use Rattle.rules.specs.Over.{over}
 use Rattle.rules.specs.Prune.{validity_horizon}
-use Rattle.rules.specs.Snapshot.{snapshot_words}
+use Rattle.rules.specs.Snapshot.{count_words, snapshot_words}
 use Rattle.rules.specs.Outcome.{Outcome, done, unless, ◌gives◌then◌, too_short, yes_no}
 
 -- A list answers how many items it wrote; 9 comes after every other refusal.
@@ -141,6 +141,10 @@ abandonment_answers e = is_core e.part && ltb e.certificate 2 && not (is_named e
 abbrev pub is_executed : Entry → Bool
 is_executed e = eqb e.certificate 2
 
+-- Rebuilt: the sum of the counts, which stops where each of them does.
+abbrev pub rebuilt_in : List Count → ℕ
+rebuilt_in cs = min (total (λ (c : Count). c.rebuilt) cs) max_count
+
 -- a lookup of an entry
 abbrev pub lookup : (Entry → Bool) → ℕ → Plain → Outcome
 lookup q t p = done (yes_no (of_entry q (entry_of t p)) ∷ []) p
@@ -160,6 +164,7 @@ pub data Reading : Type 0 where
   issued_by : (record_key transaction : ℕ) → Reading
   local rebuilt : Reading
   take_snapshot : (room : ℕ) → Reading
+  rebuilt_by_shard : (room : ℕ) → Reading
 
 abbrev pub question : ℕ → ℕ → ℕ → ℕ → ℕ → Question
 question t shard key at end = record { transaction = t; shard = shard; key = key; at = at; end = end }
@@ -184,5 +189,6 @@ read (executed t) p = lookup is_executed t p
 read (reaches_beyond t) p = lookup (λ e. filled (remote p.local e.terms)) t p
 read (issued_by r t) p = done (yes_no (names (index p) r t) ∷ []) p
 read local p = done (p.local ∷ []) p
-read rebuilt p = done (p.rebuilt ∷ []) p
+read rebuilt p = done (rebuilt_in p.counts ∷ []) p
 read (take_snapshot room) p = listing 0 room single (snapshot_words p) p
+read (rebuilt_by_shard room) p = listing 0 room count_words p.counts p

@@ -3,6 +3,7 @@ use Rattle.std.specs.Prelude.{ℕ, suc, ◌≤◌, ◌≡◌, List, length}
 use Rattle.lists.specs.Lists.{Every}
 use Rattle.rules.specs.Numbers.{is_word}
 use Rattle.rules.specs.Plain.{Plain}
+use Rattle.rules.specs.Widths.{snapshot_room}
 use Rattle.rules.specs.Calls.{making}
 use Rattle.rules.specs.Good.{Holds}
 use Rattle.rules.specs.Snapshot.{snapshot_words, restoring}
@@ -31,4 +32,4 @@ pub record Exact : Type 0 where
   -- what is refused hands back the ledger of a refused making
   pub refused : (ws : List ℕ) (n : ℕ) → (restoring ws).refused ≡ suc n → (restoring ws).ledger ≡ (making 0 0 0 0).ledger
   -- so many words hold every snapshot
-  pub room : (p : Plain) → Reached p → length (snapshot_words p) ≤ 5895
+  pub room : (p : Plain) → Reached p → length (snapshot_words p) ≤ snapshot_room

@@ -3,8 +3,8 @@
 use Rattle.std.specs.Prelude.{ℕ, zero, suc, ◌+◌, ◌*◌, Bool, cond, not, ◌&&◌, ◌||◌, List, [], ◌∷◌, ◌++◌, map, eqb, leb, length, take, drop}
 use Rattle.std.proofs.Math.Option.{Option, none, some}
 use Rattle.lists.specs.Lists.{all, all_of, filled, has, ascending, concat_map, total, self, part, cut, rows}
-use Rattle.rules.specs.Numbers.{is_time, is_shard, is_span, max_entries, max_departures, max_routes, max_core, max_edges, max_destinations, max_absences, max_marks}
-use Rattle.rules.specs.Plain.{Part, whole, leg, core, remainder, part_number, Terms, Absence, Entry, Departure, Plain, transaction_of, absence_key, shard_of, issues, owes}
+use Rattle.rules.specs.Numbers.{is_time, is_shard, is_span, max_entries, max_departures, max_counts, max_routes, max_core, max_edges, max_destinations, max_absences, max_marks}
+use Rattle.rules.specs.Plain.{Part, whole, leg, core, remainder, part_number, Terms, Absence, Entry, Departure, Count, Plain, transaction_of, absence_key, shard_of, counted_shard, issues, owes}
 use Rattle.rules.specs.Words.{word, within, route_count, core_count, edge_count, sizes, decomposed, destinations_at, admission_terms, admission_formed, admission_timed, admission_placed, admission_words}
 use Rattle.rules.specs.Outcome.{Outcome, done, unless, ◌gives◌then◌, yes_no}
 use Rattle.rules.specs.Calls.{not_made}
@@ -41,18 +41,25 @@ stamp_words (some until) = 1 ∷ until ∷ []
 abbrev pub departure_words : Departure → List ℕ
 departure_words d = d.shard ∷ d.cut ∷ stamp_words d.stamp
 
--- local, the spans, the running count, how many entries and departures there are; each entry's length, the entries, the departures
+abbrev pub count_words : Count → List ℕ
+count_words c = c.shard ∷ c.rebuilt ∷ []
+
+-- how many entries and departures there are; each entry's length, the entries, the departures
+abbrev pub listed_words : List Entry → List Departure → List ℕ
+listed_words es ds =
+    length es
+    ∷ length ds
+    ∷ (map (λ e. length (entry_words e)) es ++ (concat_map entry_words es ++ concat_map departure_words ds))
+
+-- local, the spans, how many counts there are and these; entries and departures
 unfoldable pub snapshot_words : Plain → List ℕ
 snapshot_words p =
     p.local
     ∷ p.validity
     ∷ p.core_span
     ∷ p.leg_span
-    ∷ p.rebuilt
-    ∷ length p.entries
-    ∷ length p.departures
-    ∷ (map (λ e. length (entry_words e)) p.entries
-    ++ (concat_map entry_words p.entries ++ concat_map departure_words p.departures))
+    ∷ length p.counts
+    ∷ (concat_map count_words p.counts ++ listed_words p.entries p.departures)
 
 -- The reading. An entry's words: those of its admission, then its history.
 module _ (ws : List ℕ) where
@@ -114,18 +121,32 @@ stamp_in is_stamped until = cond (eqb is_stamped 0) none (some until)
 abbrev pub departure_in : List ℕ → Departure
 departure_in ws = record { shard = word 0 ws; cut = word 1 ws; stamp = stamp_in (word 2 ws) (word 3 ws) }
 
+abbrev pub count_in : List ℕ → Count
+count_in ws = record { shard = word 0 ws; rebuilt = word 1 ws }
+
 module _ (ws : List ℕ) where
+  -- how many shards have a count, and the words of each
+  abbrev pub shard_count : ℕ
+  shard_count = word 4 ws
+
+  abbrev pub count_parts : List (List ℕ)
+  count_parts = rows 2 shard_count (drop 5 ws)
+
+  -- where the numbers of entries and of departures stand
+  abbrev pub sizes_at : ℕ
+  sizes_at = 5 + 2 * shard_count
+
   abbrev pub entry_count : ℕ
-  entry_count = word 5 ws
+  entry_count = word sizes_at ws
 
   abbrev pub departure_count : ℕ
-  departure_count = word 6 ws
+  departure_count = word (sizes_at + 1) ws
 
   abbrev pub entry_lengths : List ℕ
-  entry_lengths = part 7 entry_count ws
+  entry_lengths = part (sizes_at + 2) entry_count ws
 
   abbrev pub entries_at : ℕ
-  entries_at = 7 + entry_count
+  entries_at = sizes_at + 2 + entry_count
 
   abbrev pub departures_at : ℕ
   departures_at = entries_at + total self entry_lengths
@@ -146,7 +167,7 @@ module _ (ws : List ℕ) where
         leg_span = word 3 ws;
         entries = map entry_in entry_parts;
         departures = map departure_in departure_parts;
-        rebuilt = word 4 ws;
+        counts = map count_in count_parts;
       }
 
 -- 12, of an entry: a size over its limit, or a length that its sizes do not require. A word that is not there counts as 0, and then the length
@@ -169,7 +190,8 @@ entry_formed ws =
 unfoldable pub snapshot_formed : List ℕ → Bool
 snapshot_formed ws =
     all_of (
-    leb (entry_count ws) max_entries
+    leb (shard_count ws) max_counts
+    ∷ leb (entry_count ws) max_entries
     ∷ leb (departure_count ws) max_departures
     ∷ eqb (length ws) (departures_at ws + 4 * departure_count ws)
     ∷ all entry_formed (entry_parts ws)
@@ -222,6 +244,10 @@ abbrev pub departure_sound : List ℕ → Bool
 departure_sound ws =
     all_of (is_shard (word 0 ws) ∷ is_time (word 1 ws) ∷ leb (word 2 ws) 1 ∷ until_fits (word 2 ws) (word 3 ws) ∷ [])
 
+-- a count is of at least one entry; that it is at most 2^64 − 1, each word is
+abbrev pub count_sound : List ℕ → Bool
+count_sound ws = is_shard (word 0 ws) && leb 1 (word 1 ws)
+
 unfoldable pub snapshot_sound : List ℕ → Bool
 snapshot_sound ws =
     let p : Plain = ledger_in ws in
@@ -230,6 +256,8 @@ snapshot_sound ws =
     ∷ is_span p.validity
     ∷ is_span p.core_span
     ∷ is_span p.leg_span
+    ∷ all count_sound (count_parts ws)
+    ∷ ascending counted_shard p.counts
     ∷ all (entry_sound p.local) (entry_parts ws)
     ∷ ascending transaction_of p.entries
     ∷ all departure_sound (departure_parts ws)

@@ -7,6 +7,7 @@ use Rattle.rules.specs.Entries.{admitted}
 use Rattle.rules.specs.Outcome.{Outcome, said}
 use Rattle.rules.specs.Calls.{Call, admission, absence, certify, abandonment, settled, returned, closes, finalization, terminal, step, run, making, after_admission, after_absence, after_certify, after_abandonment, after_mark, after_closes, after_finalization, after_terminal}
 use Rattle.rules.specs.Snapshot.{entry_words, snapshot_words, entry_in, ledger_in, entry_formed, snapshot_formed, entry_sound, snapshot_sound, restoring}
+use Rattle.rules.specs.Widths.{snapshot_room}
 use Rattle.rules.specs.Instances.{Row}
 
 -- what is written after a list of calls; the numbers that the reader gives, list by list; what it hands back, written again behind its number
@@ -27,10 +28,18 @@ abbrev first : ℕ → List ℕ
 first zero = []
 first (suc n) = first n ++ (suc n ∷ [])
 
--- entries and departures put down as a snapshot; one of either alone
+-- entries and departures put down, as they stand behind the counts; counts, entries and departures as a snapshot; one of each alone
+abbrev listed : List (List ℕ) → List (List ℕ) → List ℕ
+listed es ds = length es ∷ length ds ∷ (map (λ e. length e) es ++ (concat_map (λ e. e) es ++ concat_map (λ d. d) ds))
+
+abbrev counting : List (List ℕ) → List ℕ → List ℕ
+counting cs behind = 4 ∷ 100 ∷ 50 ∷ 200 ∷ length cs ∷ (concat_map (λ c. c) cs ++ behind)
+
+abbrev counts_alone : List (List ℕ) → List ℕ
+counts_alone cs = counting cs (0 ∷ 0 ∷ [])
+
 abbrev snapshot_of : List (List ℕ) → List (List ℕ) → List ℕ
-snapshot_of es ds =
-    4 ∷ 100 ∷ 50 ∷ 200 ∷ 0 ∷ length es ∷ length ds ∷ (map (λ e. length e) es ++ (concat_map (λ e. e) es ++ concat_map (λ d. d) ds))
+snapshot_of es ds = counting [] (listed es ds)
 
 abbrev one : List ℕ → List ℕ
 one e = snapshot_of (e ∷ []) []
@@ -91,7 +100,7 @@ of_departures = 4 ∷ 100 ∷ 50 ∷ 200 ∷ 0 ∷ 0 ∷ 2 ∷ 5 ∷ 11 ∷ 1 �
 
 abbrev of_two : List ℕ
 of_two =
-    4 ∷ 100 ∷ 50 ∷ 200 ∷ 1 ∷ 2 ∷ 0 ∷ 15 ∷ 16
+    4 ∷ 100 ∷ 50 ∷ 200 ∷ 1 ∷ 6 ∷ 1 ∷ 2 ∷ 0 ∷ 15 ∷ 16
     ∷ 0 ∷ 0 ∷ 0 ∷ 8 ∷ 1000 ∷ 2000 ∷ 10 ∷ 77 ∷ 0 ∷ 0 ∷ 2 ∷ 6 ∷ 0 ∷ 0 ∷ 0
     ∷ 1 ∷ 0 ∷ 0 ∷ 9 ∷ 1000 ∷ 2000 ∷ 10 ∷ 77 ∷ 0 ∷ 55 ∷ 0 ∷ 1 ∷ 0 ∷ 0 ∷ 0 ∷ 0 ∷ []
 
@@ -113,7 +122,7 @@ full_of t =
     ++ (1 ∷ 2 ∷ 6 ∷ 1 ∷ 8 ∷ (concat_map (λ k. 5 ∷ k ∷ []) (first 8) ++ (8 ∷ first 8))))))))))
 
 abbrev full : List ℕ
-full = snapshot_of (map full_of (first 48)) (map (λ k. k ∷ 11 ∷ 1 ∷ 30 ∷ []) (first 32))
+full = counting (map (λ k. k ∷ 7 ∷ []) (first 32)) (listed (map full_of (first 48)) (map (λ k. k ∷ 11 ∷ 1 ∷ 30 ∷ []) (first 32)))
 
 abbrev pub snapshots : List Row
 snapshots =
@@ -141,7 +150,23 @@ snapshots =
       given = read_back [] ++ read_back (0 ∷ 100 ∷ 50 ∷ 200 ∷ 0 ∷ 0 ∷ 0 ∷ []);
       stated = 12 ∷ anew ++ (13 ∷ anew);
     }
-    ∷ record { name = "the fullest has 5,895 words"; given = length full ∷ numbers (full ∷ []); stated = 5895 ∷ 0 ∷ [] }
+    ∷ record { name = "the fullest has 5,959 words"; given = length full ∷ snapshot_room ∷ numbers (full ∷ []); stated = 5959 ∷ 5959 ∷ 0 ∷ [] }
+    ∷ record {
+      name = "32 counts; 33; none, and 2^64 - 1 of none";
+      given =
+          numbers
+          (map (λ (n : ℕ). counts_alone (map (λ k. k ∷ 7 ∷ []) (first n))) (32 ∷ 33 ∷ 0 ∷ [])
+          ++ ((4 ∷ 100 ∷ 50 ∷ 200 ∷ (2 ^ 64 - 1) ∷ 0 ∷ 0 ∷ []) ∷ []));
+      stated = 0 ∷ 12 ∷ 0 ∷ 12 ∷ [];
+    }
+    ∷ record {
+      name = "a count with half a pair, with nothing behind it, with one number, with both";
+      given =
+          numbers
+          ((4 ∷ 100 ∷ 50 ∷ 200 ∷ 1 ∷ 6 ∷ []) ∷ counting ((6 ∷ 7 ∷ []) ∷ []) [] ∷ counting ((6 ∷ 7 ∷ []) ∷ []) (0 ∷ [])
+          ∷ counting ((6 ∷ 7 ∷ []) ∷ []) (0 ∷ 0 ∷ []) ∷ []);
+      stated = 12 ∷ 12 ∷ 12 ∷ 0 ∷ [];
+    }
     ∷ record {
       name = "48 entries; 49";
       given = numbers (snapshot_of (map whole_of (first 48)) [] ∷ snapshot_of (map whole_of (first 49)) [] ∷ []);
@@ -288,6 +313,15 @@ unwritten =
       stated = 13 ∷ 0 ∷ 13 ∷ 13 ∷ 13 ∷ [];
     }
     ∷ record {
+      name = "a count of 0, of 1; of shard 0, of 2^33 - 1, of 2^33; two in order, out of order, one twice";
+      given =
+          numbers
+          (map counts_alone
+          (((6 ∷ 0 ∷ []) ∷ []) ∷ ((6 ∷ 1 ∷ []) ∷ []) ∷ ((0 ∷ 1 ∷ []) ∷ []) ∷ (((2 ^ 33 - 1) ∷ 1 ∷ []) ∷ []) ∷ (((2 ^ 33) ∷ 1 ∷ []) ∷ [])
+          ∷ ((5 ∷ 2 ∷ []) ∷ (6 ∷ 1 ∷ []) ∷ []) ∷ ((6 ∷ 1 ∷ []) ∷ (5 ∷ 2 ∷ []) ∷ []) ∷ ((5 ∷ 2 ∷ []) ∷ (5 ∷ 2 ∷ []) ∷ []) ∷ []));
+      stated = 13 ∷ 0 ∷ 13 ∷ 0 ∷ 13 ∷ 0 ∷ 13 ∷ 13 ∷ [];
+    }
+    ∷ record {
       name = "two entries in order, out of order, one twice";
       given =
           numbers
@@ -341,12 +375,12 @@ unwritten =
       stated = 13 ∷ 13 ∷ 13 ∷ 0 ∷ 0 ∷ 0 ∷ 0 ∷ 0 ∷ 0 ∷ 13 ∷ 13 ∷ 13 ∷ [];
     }
     ∷ record {
-      name = "any word as a charge, a transaction, a route, an edge's id, the running count";
+      name = "any word as a charge, a transaction, a route, an edge's id, a count";
       given =
           (let huge : ℕ = 2 ^ 64 - 1 in
           numbers
           (one (0 ∷ 0 ∷ 0 ∷ 9 ∷ 1000 ∷ 2000 ∷ 10 ∷ huge ∷ 0 ∷ history 0 0 0 0 []) ∷ one (whole_of huge) ∷ one (1 ∷ 0 ∷ 0 ∷ nine 0 ++ (huge ∷ history 0 0 0 0 []))
-          ∷ one (leg_of (huge ∷ []) (history 1 0 0 0 [])) ∷ (4 ∷ 100 ∷ 50 ∷ 200 ∷ huge ∷ 0 ∷ 0 ∷ []) ∷ []));
+          ∷ one (leg_of (huge ∷ []) (history 1 0 0 0 [])) ∷ counts_alone ((6 ∷ huge ∷ []) ∷ []) ∷ []));
       stated = 0 ∷ 0 ∷ 0 ∷ 0 ∷ 0 ∷ [];
     }
     ∷ record {

@@ -52,6 +52,7 @@ calls =
     ∷ called "local" (Some 0) None
     ∷ called "rebuilt" (Some 0) None
     ∷ called "snapshot" (Some 0) (Some 1)
+    ∷ called "rebuilt_by_shard" (Some 0) (Some 2)
     ∷ called "dump" (Some 0) None
     ∷ []
 

@@ -25,7 +25,7 @@ pub const PRUNE: usize = 15;
 
 pub const BUNDLE: usize = 16;
 
-pub const DUMP: usize = 35;
+pub const DUMP: usize = 36;
 
 // A call's place in the table.
 #[derive(Clone, Copy)]
@@ -39,7 +39,7 @@ pub struct Code {
 struct Row(&'static [u8], Option<usize>, Option<usize>);
 
 // How many calls there are.
-const CODES: usize = 36;
+const CODES: usize = 37;
 
 const ROWS: [Row; CODES] = [
     Row(b"repeat", Some(1), None),
@@ -77,6 +77,7 @@ const ROWS: [Row; CODES] = [
     Row(b"local", Some(0), None),
     Row(b"rebuilt", Some(0), None),
     Row(b"snapshot", Some(0), Some(1)),
+    Row(b"rebuilt_by_shard", Some(0), Some(2)),
     Row(b"dump", Some(0), None),
 ];
 

@@ -1,5 +1,5 @@
-// The lists of shards and routes: unstamped departures, reach, claimants, counterparts. Each is one word an item. Shards are gathered in a
-// set, which is then written out.
+// The lists of shards and routes: unstamped departures, reach, claimants, counterparts, each one word an item; and the counts by shard, two
+// words an item. Shards are gathered in a set, which is then written out.
 #![tactic(auto)]
 
 pub mod set;
@@ -53,6 +53,15 @@ pub fn unstamped_departures(ledger: &Ledger, lent: &mut [u64]) -> Result<u64, Re
 {
     let shards = shards_of(ledger.departures, |d| d.until.is_none());
     shards.list(lent)
+}
+
+// Each shard with what its records rebuilt.
+pub fn rebuilt_by_shard(ledger: &Ledger, lent: &mut [u64]) -> Result<u64, Refusal>
+    requires { Held ledger.now }
+    ensures { Reads (read (rules.rebuilt_by_shard (length lent.old)) (contents ledger.now)) lent.old lent.new result }
+{
+    let pairs = ledger.counts.pairs();
+    list(pairs.as_slice(), ledger.counts.front.len, lent)
 }
 
 pub fn reach(ledger: &Ledger, tx: Transaction, lent: &mut [u64]) -> Result<u64, Refusal>

@@ -3,6 +3,7 @@ pub mod Fitting
 pub mod Histories
 pub mod Sound
 pub mod Taking
+pub mod Rows
 pub mod Filling
 pub mod Restoring
 pub mod Putting

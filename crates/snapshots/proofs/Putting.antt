@@ -3,7 +3,7 @@
 use Prim.Native.Nat.{ℕ, ◌+◌, ◌<◌, ◌≤◌}
 use mathlib.Core.Path.{◌≡◌, refl, sym, ap, ◌∙◌}
 use mathlib.Core.List.{List, [], ◌++◌, map}
-use Rattle.std.proofs.lemmas.List.{append_assoc, drop-map}
+use Rattle.std.proofs.lemmas.List.{append_assoc}
 use native.Mathlib.Omega.{arith}
 use lib.ListN.{length, take, drop, get_or, length-append}
 use lib.Seq.{sets, sets-eq, length-sets}
@@ -11,7 +11,7 @@ use borrow.Rule.Slice.PartMut.{put_mid}
 use Rattle.std.proofs.lemmas.Slice.{put_mid-paste}
 use Rattle.std.proofs.lemmas.List.Edits.{paste_all}
 use Rattle.lists.specs.Lists.{concat_map}
-use Rattle.lists.proofs.Cuts.{rest_more}
+use Rattle.lists.proofs.Cuts.{rest_mapped}
 use Rattle.lists.proofs.Listing.{sets_append}
 use Rattle.snapshots.specs.Put.{Put}
 
@@ -65,6 +65,4 @@ module _ {whole before now : List ℕ} {at end : ℕ} where
 -- what is said of the next of some, and of those behind it
 pub next_row : {A B : Type 0} (f : A → B) (g : B → List ℕ) (xs : List A) (i : ℕ) (d : A) → i < length xs →
     concat_map g (drop i (map f xs)) ≡ g (f (get_or xs i d)) ++ concat_map g (drop (i + 1) (map f xs))
-next_row f g xs i d h =
-    ap (concat_map g) (drop-map f i xs ∙ ap (map f) (rest_more d xs i h))
-    ∙ ap (λ m. g (f (get_or xs i d)) ++ concat_map g m) (sym (drop-map f (i + 1) xs))
+next_row f g xs i d h = ap (concat_map g) (rest_mapped f d xs i h)

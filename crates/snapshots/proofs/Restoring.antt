@@ -7,13 +7,13 @@ use mathlib.Core.List.{List, [], ◌∷◌}
 use native.Mathlib.Omega.{arith}
 use Rattle.std.specs.Prelude.{Result, Ok, Err, is_err}
 use Rattle.lists.specs.Lists.{all, all_of, ascending}
-use Rattle.lists.proofs.Tests.{and_false, and_true}
+use Rattle.lists.proofs.Tests.{and_false}
 use Rattle.rules.specs.Numbers.{is_shard, is_span}
-use Rattle.rules.specs.Plain.{Plain, transaction_of, shard_of, empty}
+use Rattle.rules.specs.Plain.{Plain, transaction_of, shard_of, counted_shard, empty}
 use Rattle.rules.specs.Words.{word}
 use Rattle.rules.specs.Outcome.{Outcome, done, unless, ◌gives◌then◌}
 use Rattle.rules.specs.Calls.{not_made, making}
-use Rattle.rules.specs.Snapshot.{entry_parts, departure_parts, entry_sound, departure_sound, snapshot_formed, snapshot_sound, ledger_in, restoring}
+use Rattle.rules.specs.Snapshot.{count_parts, entry_parts, departure_parts, count_sound, entry_sound, departure_sound, snapshot_formed, snapshot_sound, ledger_in, restoring}
 use Rattle.types.specs.declared.refusal.Refusal.{Refusal}
 use Rattle.types.specs.declared.refusal.Refusal.TheVariants.{NoSnapshot, NeverWritten}
 use Rattle.types.specs.Refusals.{refusal_number, refused_in}
@@ -21,18 +21,20 @@ use Rattle.ledger.specs.declared.Ledger.{Ledger}
 use Rattle.ledger.specs.declared.Done.{Done}
 use Rattle.ledger.specs.Meets.{Meets, three_of, answers_in, saying, says_no}
 use Rattle.ledger.proofs.Meeting.{numbered}
-use Rattle.snapshots.specs.Restore.{departures_sound, entries_sound, Made, Fills, Refused}
+use Rattle.snapshots.specs.Restore.{whole_sound, Made, Fills, Refused}
 
 -- the tests of the whole in the order in which they are made
-reordered : (a b c d e f g h : Bool) → all_of (a ∷ b ∷ c ∷ d ∷ e ∷ f ∷ g ∷ h ∷ []) ≡ a && all_of (b ∷ c ∷ d ∷ []) && ((g && h) && (e && f))
-reordered false b c d e f g h = refl
-reordered true false c d e f g h = refl
-reordered true true false d e f g h = refl
-reordered true true true false e f g h = refl
-reordered true true true true false f g h = sym (and_false (g && h))
-reordered true true true true true false g h = sym (and_false (g && h))
-reordered true true true true true true false h = refl
-reordered true true true true true true true h = and_true h ∙ sym (and_true h)
+reordered : (a b c d e f g h i j : Bool) → all_of (a ∷ b ∷ c ∷ d ∷ e ∷ f ∷ g ∷ h ∷ i ∷ j ∷ []) ≡ a && all_of (b ∷ c ∷ d ∷ []) && ((e && f) && ((i && j) && (g && h)))
+reordered false b c d e f g h i j = refl
+reordered true false c d e f g h i j = refl
+reordered true true false d e f g h i j = refl
+reordered true true true false e f g h i j = refl
+reordered true true true true false f g h i j = refl
+reordered true true true true true false g h i j = refl
+reordered true true true true true true false h i j = sym (and_false (i && j))
+reordered true true true true true true true false i j = sym (and_false (i && j))
+reordered true true true true true true true true false j = refl
+reordered true true true true true true true true true j = refl
 
 -- what is said by a result
 said_no : {A : Type 0} (s : Result A Refusal) → is_err s ≡ true → (k : ℕ) × (refused_in s ≡ suc k)
@@ -63,12 +65,13 @@ module _ (ws : List ℕ) where
   framed = is_shard (word 0 ws) && all_of (is_span (word 1 ws) ∷ is_span (word 2 ws) ∷ is_span (word 3 ws) ∷ [])
 
   abbrev rest : Bool
-  rest = departures_sound (departure_parts ws) && entries_sound (word 0 ws) (entry_parts ws)
+  rest = whole_sound ws
 
   in_order : snapshot_sound ws ≡ framed && rest
   unfolding snapshot_sound ledger_in
   in_order =
       reordered (is_shard (word 0 ws)) (is_span (word 1 ws)) (is_span (word 2 ws)) (is_span (word 3 ws))
+      (all count_sound (count_parts ws)) (ascending counted_shard (ledger_in ws).counts)
       (all (entry_sound (word 0 ws)) (entry_parts ws)) (ascending transaction_of (ledger_in ws).entries)
       (all departure_sound (departure_parts ws)) (ascending shard_of (ledger_in ws).departures)
 

@@ -141,7 +141,7 @@ module _ (lengths joined : List ℕ) (start : Ledger) where
                     };
                   };
                   departures = g.departures;
-                  rebuilt = g.rebuilt;
+                  counts = g.counts;
                 });
               }
 

@@ -11,9 +11,10 @@ use lib.ListN.{length, take, drop, get_or, length-map, length-append}
 use Rattle.lists.specs.Lists.{concat_map}
 use Rattle.lists.proofs.Listing.{length-words, sets_front}
 use Rattle.lists.proofs.Sets.{concat_map-single}
+use Rattle.lists.proofs.Held.{mapped-length}
 use Rattle.rules.specs.Plain as plain
 use Rattle.rules.specs.Plain.{Plain}
-use Rattle.rules.specs.Snapshot.{entry_words, departure_words, snapshot_words}
+use Rattle.rules.specs.Snapshot.{entry_words, departure_words, count_words, listed_words, snapshot_words}
 use Rattle.rules.specs.Outcome.{too_short}
 use Rattle.rules.specs.Readings.{listing, single}
 use Rattle.types.specs.declared.refusal.Refusal.TheVariants.{ListShort}
@@ -22,6 +23,8 @@ use Rattle.readings.proofs.Written.{reads_list}
 use Rattle.rules.proofs.SnapshotRead.{departure-length}
 use Rattle.entry.specs.declared.Entry.{Entry}
 use Rattle.entry.specs.Entry.{plain_entry}
+use Rattle.store.specs.declared.counts.Counts.{Counts}
+use Rattle.store.specs.Counts.{counts_in, plain_count}
 use Rattle.store.specs.declared.departures.Departures.{Departures}
 use Rattle.store.specs.Departures.{on_file}
 use Rattle.store.proofs.Filed.{file-length}
@@ -31,7 +34,10 @@ use Rattle.ledger.proofs.Places.{slots_length, entries-length, none_left, slot_m
 use Rattle.snapshots.specs.Put.{Put, entry_lengths, entry_size}
 use Rattle.snapshots.proofs.Fields.{entry-length}
 
--- the departures
+-- counts and departures
+pub counts-size : (x : Counts) → length (concat_map count_words (counts_in x)) ≡ 2 * x.front.len
+counts-size x = length-words count_words 2 (λ c. refl) (counts_in x) ∙ ap (λ n. 2 * n) (mapped-length x.front plain_count)
+
 pub file-size : (x : Departures) → length (concat_map departure_words (on_file x)) ≡ 4 * x.front.len
 file-size x = length-words departure_words 4 departure-length (on_file x) ∙ ap (λ n. 4 * n) (file-length x)
 
@@ -62,11 +68,13 @@ module _ (l : Ledger) (h : Held l) where
   lengths-length = length-map es (λ e. length (entry_words e)) ∙ entries-length l h
 
   -- the whole
-  pub snapshot-size : length (snapshot_words (contents l)) ≡ 7 + l.roster.len + length (concat_map entry_words (contents l).entries) + 4 * l.departures.front.len
+  pub snapshot-size : length (snapshot_words (contents l)) ≡ 7 + 2 * l.counts.front.len + l.roster.len + length (concat_map entry_words (contents l).entries) + 4 * l.departures.front.len
   unfolding snapshot_words contents
   snapshot-size =
       omega (
         arith,
+        length-append (concat_map count_words (counts_in l.counts)) (listed_words es (on_file l.departures)),
+        counts-size l.counts,
         length-append (entry_lengths es) (concat_map entry_words es ++ concat_map departure_words (on_file l.departures)),
         length-append (concat_map entry_words es) (concat_map departure_words (on_file l.departures)),
         lengths-length,

@@ -2,9 +2,9 @@
 -- numbers.
 use Rattle.std.specs.Prelude.{ℕ, ◌+◌, ◌*◌, ◌≤◌, ◌≡◌, ◌&&◌, Bool, true, List, [], ◌∷◌, eqb, leb, length}
 use Rattle.lists.specs.Lists.{all_of}
-use Rattle.rules.specs.Numbers.{max_entries, max_departures, max_destinations, max_absences, max_marks}
+use Rattle.rules.specs.Numbers.{max_entries, max_departures, max_counts, max_destinations, max_absences, max_marks}
 use Rattle.rules.specs.Words.{within, sizes}
-use Rattle.rules.specs.Snapshot.{admission_length, absence_count, mark_count, history_length, entry_count, departure_count, entries_at}
+use Rattle.rules.specs.Snapshot.{admission_length, absence_count, mark_count, history_length, shard_count, entry_count, departure_count, entries_at}
 use Rattle.words.specs.Admission.{Sized}
 
 -- the sizes are within their limits, and the words reach to the admission's end
@@ -17,7 +17,9 @@ abbrev pub history_formed : List ℕ → Bool
 history_formed hs =
     all_of (leb (absence_count hs) max_absences ∷ leb (mark_count hs) max_marks ∷ eqb (length hs) (history_length hs) ∷ [])
 
--- not too many entries and departures, and room for what is not an entry
+-- not too many counts, entries and departures, and room for what is not an entry
 abbrev pub counted : List ℕ → Bool
 counted ws =
-    leb (entry_count ws) max_entries && (leb (departure_count ws) max_departures && leb (entries_at ws + 4 * departure_count ws) (length ws))
+    leb (shard_count ws) max_counts
+    && (leb (entry_count ws) max_entries
+    && (leb (departure_count ws) max_departures && leb (entries_at ws + 4 * departure_count ws) (length ws)))

@@ -33,9 +33,13 @@ history_size e = 6 + 2 * e.absences_len + e.marks_len
 abbrev pub entry_size : Entry → ℕ
 entry_size e = 9 + e.routes_len + e.core_len + edges_size e + history_size e
 
--- each entry's length, and what comes ahead of the lengths
+-- each entry's length
 abbrev pub entry_lengths : List plain.Entry → List ℕ
 entry_lengths es = map (λ e. length (entry_words e)) es
 
+-- what comes ahead of the counts, and what comes ahead of the lengths
 abbrev pub frame_words : Plain → List ℕ
-frame_words p = p.local ∷ p.validity ∷ p.core_span ∷ p.leg_span ∷ p.rebuilt ∷ length p.entries ∷ length p.departures ∷ []
+frame_words p = p.local ∷ p.validity ∷ p.core_span ∷ p.leg_span ∷ length p.counts ∷ []
+
+abbrev pub size_words : Plain → List ℕ
+size_words p = length p.entries ∷ length p.departures ∷ []

@@ -1,7 +1,7 @@
 // The form of a snapshot's words: as many as their sizes require, each size within its limit.
 ghost use Rattle.std.specs.Prelude.{◌≡◌, ◌≤◌, length, MatchOption};
 ghost use Rattle.lists.specs.Lists.{all, total, self as itself, cut};
-ghost use Rattle.rules.specs.Snapshot.{admission_length, entry_formed, snapshot_formed};
+ghost use Rattle.rules.specs.Snapshot.{admission_length, entry_formed, shard_count, sizes_at, snapshot_formed};
 ghost use Rattle.snapshots.specs.Form.{Measured, history_formed, counted};
 
 use lists::slices::{adds_up, all_within, part, size_at, total};
@@ -61,14 +61,26 @@ fn are_entries(lengths: &[u64], joined: &[u64]) -> bool
     true
 }
 
-// Whether there are not too many entries and departures, and room for their lengths and for the departures. The numbers may be any words:
-// none is added to another before it is within its limit.
+// Where the numbers of entries and of departures stand: behind the counts.
+pub fn sizes_at(words: &[u64]) -> usize
+    requires { shard_count words.now ≤ 32 }
+    ensures { result ≡ sizes_at words.now }
+{
+    5 + 2 * size_at(words, 4)
+}
+
+// Whether there are not too many counts, entries and departures, and room for the counts, the lengths and the departures. The numbers may be
+// any words: none is added to another before it is within its limit.
 fn is_counted(words: &[u64]) -> bool
     ensures { result ≡ counted words.now }
 {
-    let n = size_at(words, 5);
-    let m = size_at(words, 6);
-    n <= 48 && m <= 32 && 7 + n + 4 * m <= words.len()
+    if 32 < size_at(words, 4) {
+        return false;
+    }
+    let at = sizes_at(words);
+    let n = size_at(words, at);
+    let m = size_at(words, at + 1);
+    n <= 48 && m <= 32 && at + 2 + n + 4 * m <= words.len()
 }
 
 pub fn is_formed(words: &[u64]) -> bool
@@ -77,9 +89,10 @@ pub fn is_formed(words: &[u64]) -> bool
     if !is_counted(words) {
         return false;
     }
-    let n = size_at(words, 5);
-    let rest = words.len() - (7 + n + 4 * size_at(words, 6));
-    let lengths = part(words, 7, n);
-    let (_, entries) = words.split_at(7 + n);
+    let at = sizes_at(words);
+    let n = size_at(words, at);
+    let rest = words.len() - (at + 2 + n + 4 * size_at(words, at + 1));
+    let lengths = part(words, at + 2, n);
+    let (_, entries) = words.split_at(at + 2 + n);
     adds_up(lengths, rest) && are_entries(lengths, entries)
 }

@@ -2,6 +2,7 @@
 // only then is a ledger made, its entries taken in one after the other as an admission's is.
 #![tactic(auto)]
 
+pub mod counts;
 pub mod departures;
 pub mod entries;
 pub mod form;

@@ -2,6 +2,7 @@
 ghost use Rattle.std.specs.Prelude.{◌≡◌, ◌≤◌, ◌+◌, ◌*◌, true, leb, length, take};
 ghost use Rattle.lists.specs.Lists.{all, total, self as itself, concat_map};
 ghost use Rattle.rules.specs.Words.{edge_words};
+ghost use Rattle.rules.specs.Widths.{entry_room};
 ghost use Rattle.rules.specs.Snapshot.{absence_words, history_words, entry_words};
 ghost use Rattle.entry.specs.Entry.{plain_entry, absences_of, edges_of};
 ghost use Rattle.snapshots.specs.Put.{Put, head_words, edges_size, history_size, entry_size};
@@ -43,7 +44,7 @@ fn total(sizes: &[u8]) -> usize
 
 // How many words the entry has.
 pub fn entry_length(e: &Entry) -> usize
-    ensures { (result ≡ entry_size e.now) × (result ≤ 119) }
+    ensures { (result ≡ entry_size e.now) × (result ≤ entry_room) }
 {
     let n = e.edges_len as usize;
     let edges = 4 * n + total(&e.sizes[..n]);

@@ -1,15 +1,17 @@
-// A ledger made from a snapshot's words: a making with its local and spans, then the departures, then the entries.
+// A ledger made from a snapshot's words: a making with its local and spans, then the counts, the departures, the entries.
 ghost use Rattle.std.specs.Prelude.{◌≡◌, []};
 ghost use Rattle.lists.specs.Lists.{cut};
 ghost use Rattle.rules.specs.Words.{word};
 ghost use Rattle.rules.specs.Calls.{making};
-ghost use Rattle.rules.specs.Snapshot.{restoring};
+ghost use Rattle.rules.specs.Snapshot.{count_parts, departure_parts, restoring};
+ghost use Rattle.ledger.specs.Contents.{contents};
 ghost use Rattle.ledger.specs.Meets.{Meets};
-ghost use Rattle.snapshots.specs.Restore.{Empty, Takes, Made, Fills, Refused};
+ghost use Rattle.snapshots.specs.Restore.{Empty, Takes, TakesCounts, TakesDepartures, Ready, Made, Fills, Refused};
 
+use crate::counts::count_all;
 use crate::departures::file_all;
 use crate::entries::read_entry;
-use crate::form::is_formed;
+use crate::form::{is_formed, sizes_at};
 use calls::admission::take_in;
 use calls::making::new;
 use ledger::{Done, Ledger};
@@ -37,20 +39,40 @@ fn take_entries(ledger: &mut Ledger, lengths: &[u64], joined: &[u64]) -> bool
     true
 }
 
+// The words' counts put into a ledger that has none, as long as they are such as are written; whether all are.
+fn take_counts(ledger: &mut Ledger, words: &[u64]) -> bool
+    requires { Ready words.now ledger.old × ((contents ledger.old).counts ≡ []) }
+    ensures { TakesCounts (count_parts words.now) ledger.old ledger.new result }
+{
+    let (_, counts) = words.split_at(5);
+    count_all(&mut ledger.counts, counts, size_at(words, 4))
+}
+
+// Their departures likewise.
+fn take_departures(ledger: &mut Ledger, words: &[u64]) -> bool
+    requires { Ready words.now ledger.old × ((contents ledger.old).departures ≡ []) }
+    ensures { TakesDepartures (departure_parts words.now) ledger.old ledger.new result }
+{
+    let m = size_at(words, sizes_at(words) + 1);
+    let (_, departures) = words.split_at(words.len() - 4 * m);
+    file_all(&mut ledger.departures, departures, m)
+}
+
 // What the words say put into a ledger that was made with their local and spans; whether all of it is such as is written.
 fn fill(ledger: &mut Ledger, words: &[u64]) -> bool
     requires { Made words.now ledger.old }
     ensures { Fills words.now ledger.new result }
 {
-    let n = size_at(words, 5);
-    let m = size_at(words, 6);
-    let (_, departures) = words.split_at(words.len() - 4 * m);
-    if !file_all(&mut ledger.departures, departures, m) {
+    if !take_counts(ledger, words) {
         return false;
     }
-    ledger.rebuilt = word_at(words, 4);
-    let (_, entries) = words.split_at(7 + n);
-    take_entries(ledger, part(words, 7, n), entries)
+    if !take_departures(ledger, words) {
+        return false;
+    }
+    let at = sizes_at(words);
+    let n = size_at(words, at);
+    let (_, entries) = words.split_at(at + 2 + n);
+    take_entries(ledger, part(words, at + 2, n), entries)
 }
 
 // What is handed back where the words are refused: the ledger of a refused making.

@@ -3,6 +3,7 @@ pub mod Kept
 pub mod Rosters
 pub mod Pairs
 pub mod Filed
+pub mod Counting
 pub mod Keyed
 pub mod Dropping
 pub mod Keeping

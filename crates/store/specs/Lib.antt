@@ -3,4 +3,5 @@ pub mod Stored
 pub mod Roster
 pub mod Issuers
 pub mod Departures
+pub mod Counts
 pub mod Leaving

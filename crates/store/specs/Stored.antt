@@ -6,6 +6,7 @@ use Rattle.rules.specs.Plain as plain
 use Rattle.rules.specs.Index.{Pair}
 use Rattle.types.specs.declared.Time.{Time}
 use Rattle.store.specs.declared.departures.Departure.{Departure}
+use Rattle.store.specs.declared.counts.Count.{Count}
 
 -- the stamp as the rules have it
 abbrev pub stamp_of : Option Time → maths.Option ℕ
@@ -14,6 +15,9 @@ stamp_of (Some t) = some t.0
 
 abbrev pub plain_departure : Departure → plain.Departure
 plain_departure d = record { shard = d.shard.0; cut = d.cut.0; stamp = stamp_of d.until }
+
+abbrev pub plain_count : Count → plain.Count
+plain_count c = record { shard = c.shard.0; rebuilt = c.rebuilt }
 
 abbrev pub pair : ℕ → ℕ → Pair
 pair r t = record { key = r; transaction = t }

@@ -82,7 +82,7 @@ impl Departures {
     pub fn find(&self, shard: Shard) -> Option<usize>
         ensures { result ≡ place (is_of shard.0) 0 (on_file self.now) }
     {
-        self.front.as_slice().iter().position(|d| d.shard == shard)
+        sorted::find(self.front.as_slice(), |d| d.shard == shard)
     }
 
     // How many departures are of a lower shard.

@@ -169,7 +169,7 @@ module _ (l : Ledger) (h : Held l) (lent : List ℕ) (c : Closing) (j : Judges l
       issuers.Holds (unnamed_by (take l.roster.len c.stay) (keys_of l.roster) (pairs_in l.issuers)) x →
       Good (with_entries (keep (λ e. not (is_closed (contents l).local e)) (contents l).entries) (contents l)) →
       (z : length l.entries ≡ 48) →
-      Became (with_entries (keep (λ e. not (is_closed (contents l).local e)) (contents l).entries) (contents l)) (with_parts l l.rebuilt r l.entries x l.departures z)
+      Became (with_entries (keep (λ e. not (is_closed (contents l).local e)) (contents l).entries) (contents l)) (with_parts l l.counts r l.entries x l.departures z)
   unfolding contents
   kept_open r k x i g z =
       with_rows l h _ r l.entries x
@@ -178,7 +178,7 @@ module _ (l : Ledger) (h : Held l) (lent : List ℕ) (c : Closing) (j : Judges l
 
   pub closes-done : 2 * c.count ≤ length lent → (r : Roster) → Retained l.roster (take l.roster.len c.stay) r → (x : Issuers) →
       issuers.Holds (unnamed_by (take l.roster.len c.stay) (keys_of l.roster) (pairs_in l.issuers)) x → (after : List ℕ) → after ≡ sets lent 0 (listed l c.stay) →
-      (z : length l.entries ≡ 48) → Meets (after_closes (length lent) (contents l)) lent after (says c.count (with_parts l l.rebuilt r l.entries x l.departures z))
+      (z : length l.entries ≡ 48) → Meets (after_closes (length lent) (contents l)) lent after (says c.count (with_parts l l.counts r l.entries x l.departures z))
   unfolding after_closes
   closes-done q r k x i after w z =
       let p = contents l in

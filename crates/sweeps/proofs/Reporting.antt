@@ -33,6 +33,7 @@ use Rattle.store.specs.Issuers as issuers
 use Rattle.store.specs.Issuers.{pairs_in}
 use Rattle.store.specs.Departures as departures
 use Rattle.store.specs.Departures.{on_file}
+use Rattle.store.specs.Counts.{counts_in}
 use Rattle.store.proofs.Filed.{file-length}
 use Rattle.judge.specs.declared.views.View.{View}
 use Rattle.judge.specs.declared.verdicts.Verdict.{Verdict}
@@ -205,17 +206,17 @@ module _ (l : Ledger) (h : Held l) (now : ℕ) where
               file = d.file ∙ rw j.needed (keep_by_test (remains l.local.0 (survivors now (contents l))) (on_file l.departures));
             }
 
-        remained : (z : length l.entries ≡ 48) → Became (pruned now (contents l)) (with_parts l l.rebuilt r l.entries x f z)
+        remained : (z : length l.entries ≡ 48) → Became (pruned now (contents l)) (with_parts l l.counts r l.entries x f z)
         unfolding contents pruned survivors
         remained z =
-            became l l.rebuilt (keep (stands (contents l) now) (entries_of l)) left r l.entries x f
+            became l (keep (stands (contents l) now) (entries_of l)) left (counts_in l.counts) r l.entries x f l.counts
             (kept-rows l h (stands (contents l) now) (take l.roster.len c.stay) r x j.stay k
             (unnamed_index (stands (contents l) now) l h (take l.roster.len c.stay) x j.stay i))
-            left-file (pruned-kept now (contents l) h.good) z
+            left-file (record { counts = refl }) (pruned-kept now (contents l) h.good) z
 
         pub prune-done : 0 ≡ refusal_by now c.reports (length lent) → (after : List ℕ) → after ≡ take (3 * c.reports) c.words ++ drop (3 * c.reports) lent → (z : length l.entries ≡ 48) →
             Meets (after_prune now (length lent) (contents l)) lent after
-            (saying (Ok (c.reports ∷ c.fallen ∷ 0 ∷ [])) (with_parts l l.rebuilt r l.entries x f z))
+            (saying (Ok (c.reports ∷ c.fallen ∷ 0 ∷ [])) (with_parts l l.counts r l.entries x f z))
         unfolding after_prune
         prune-done q after w z =
             let p = contents l in

@@ -23,6 +23,8 @@ pub enum Refusal {
     // Reading a snapshot: words of no snapshot's form, or words that are written of no ledger.
     NoSnapshot = 12,
     NeverWritten = 13,
+    // Rebuilding: the shard has no count, and none is free.
+    CountsFull = 14,
 }
 
 impl Refusal {

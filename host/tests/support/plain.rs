@@ -50,7 +50,8 @@ pub struct Plain {
     pub v: u64,
     pub c: u64,
     pub l: u64,
-    pub count: u64,
+    /// Shard and count each.
+    pub counts: Vec<(u64, u64)>,
     pub entries: Vec<Entry>,
     pub departures: Vec<Departure>,
 }
@@ -250,7 +251,7 @@ impl Plain {
             v,
             c,
             l,
-            count: 0,
+            counts: vec![],
             entries: vec![],
             departures: vec![],
         }
@@ -258,15 +259,10 @@ impl Plain {
 
     pub fn words(&self) -> Vec<u64> {
         let entries: Vec<_> = self.entries.iter().map(Entry::words).collect();
-        let mut w = vec![
-            self.local,
-            self.v,
-            self.c,
-            self.l,
-            self.count,
-            entries.len() as u64,
-            self.departures.len() as u64,
-        ];
+        let mut w = vec![self.local, self.v, self.c, self.l];
+        w.push(self.counts.len() as u64);
+        w.extend(self.counts.iter().flat_map(|c| [c.0, c.1]));
+        w.extend([entries.len() as u64, self.departures.len() as u64]);
         w.extend(entries.iter().map(|e| e.len() as u64));
         w.extend(entries.concat());
         w.extend(
@@ -303,7 +299,9 @@ impl Plain {
 
     fn formed(words: &[u64]) -> Option<(Plain, bool)> {
         let mut next = Cursor { words, at: 0 };
-        let front = next.take(5)?;
+        let front = next.take(4)?;
+        let k = next.size(32)?;
+        let pairs = next.take(2 * k)?;
         let (n, m) = (next.size(48)?, next.size(32)?);
         let lengths = next.take(n)?;
         let mut entries = Vec::new();
@@ -328,7 +326,7 @@ impl Plain {
             v: front[1],
             c: front[2],
             l: front[3],
-            count: front[4],
+            counts: pairs.chunks(2).map(|c| (c[0], c[1])).collect(),
             entries,
             departures,
         };
@@ -344,8 +342,11 @@ impl Plain {
             };
             is_shard(d.shard) && is_time(d.cut) && d.stamped <= 1 && until
         });
+        let counts = self.counts.iter().all(|c| is_shard(c.0) && c.1 > 0);
         is_shard(self.local)
             && [self.v, self.c, self.l].iter().all(|s| is_span(*s))
+            && counts
+            && rises(&self.counts.iter().map(|c| c.0).collect::<Vec<_>>())
             && self.entries.iter().all(|e| e.is_reached(self.local))
             && rises(
                 &self

@@ -166,6 +166,20 @@ impl Random {
         }
     }
 
+    /// Mostly few, now and then as many as there may be.
+    fn counts(&mut self) -> Vec<(u64, u64)> {
+        let most = if self.one_in(8) { 32 } else { 3 };
+        let mut shards = self.rising(most, |r| 1 + r.below(1 << 20));
+        if self.one_in(8) {
+            shards.pop();
+            shards.push((1 << 33) - 1);
+        }
+        shards
+            .into_iter()
+            .map(|shard| (shard, self.word().max(1)))
+            .collect()
+    }
+
     pub fn ledger(&mut self) -> Plain {
         let local = self.shard();
         let transactions = self.rising(48, |r| r.word());
@@ -181,7 +195,7 @@ impl Random {
             v: self.span(),
             c: self.span(),
             l: self.span(),
-            count: self.word(),
+            counts: self.counts(),
             entries: transactions
                 .into_iter()
                 .map(|t| self.entry(local, t))
@@ -231,7 +245,7 @@ impl Random {
             v: 100,
             c: 50,
             l: 200,
-            count: u64::MAX,
+            counts: (1..33).map(|shard| (shard, u64::MAX)).collect(),
             entries: (0..48).map(entry).collect(),
             departures: (1..33).map(departure).collect(),
         }
@@ -313,6 +327,9 @@ impl Random {
         let time = self.of(&[0, 1, (1 << 48) - 1, 1 << 48]);
         let code = self.below(3);
         let d = ledger.departures.first_mut();
+        if self.one_in(3) {
+            return self.spoil_counts(&mut ledger.counts);
+        }
         match (self.below(8), d) {
             (0, _) => ledger.local = shard,
             (1, _) => ledger.v = span,
@@ -322,7 +339,24 @@ impl Random {
             (5, Some(d)) => d.cut = time,
             (6, Some(d)) => d.stamped = code,
             (7, Some(d)) => d.until = time,
-            _ => ledger.count = self.word(),
+            _ => ledger.counts = self.counts(),
+        }
+    }
+
+    /// Another shard or count, two exchanged, one said twice, or one more.
+    fn spoil_counts(&mut self, counts: &mut Vec<(u64, u64)>) {
+        let shard = self.of(&[0, 1, (1 << 33) - 1, 1 << 33, u64::MAX]);
+        let n = counts.len();
+        if n == 0 {
+            return counts.push((shard, self.below(2)));
+        }
+        let at = self.below(n as u64) as usize;
+        match self.below(5) {
+            0 => counts[at].0 = shard,
+            1 => counts[at].1 = self.of(&[0, 0, 1, u64::MAX]),
+            2 => counts.swap(at, (at + 1) % n),
+            3 => counts[at].0 = counts[(at + 1) % n].0,
+            _ => counts.insert(at, counts[at]),
         }
     }
 }

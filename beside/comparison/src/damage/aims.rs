@@ -1,9 +1,10 @@
 //! What is never written of a ledger, one thing at a time: words out of their range, out of order, or such as no part or stamp goes with.
 
-use reference::{ABSENCES, CORE, DESTINATIONS, EDGES, LAST_SHARD, LAST_TIME, LONGEST_SPAN};
+use reference::{ABSENCES, CORE, COUNTS, DESTINATIONS, EDGES, LAST_SHARD, LAST_TIME, LONGEST_SPAN};
 
 use super::{
-    Aim, CORE_MEMBER, LEG, REMAINDER, WHOLE, any, departure, divided, edge, entry, settling,
+    Aim, CORE_MEMBER, LEG, REMAINDER, WHOLE, any, counted, departure, divided, edge, entry,
+    settling,
 };
 use crate::image::{Edge, Entry, Image};
 use crate::random::Random;
@@ -13,9 +14,12 @@ const NO_TIMES: [u64; 2] = [LAST_TIME + 1, u64::MAX];
 const NO_SPANS: [u64; 3] = [0, LONGEST_SPAN + 1, u64::MAX];
 
 /// Each breaks one rule about what is written, and as few others as may be. Those stand more than once that find less to break, or break several.
-pub const AIMS: [Aim; 42] = [
+pub const AIMS: [Aim; 45] = [
     local,
     span,
+    count_shard,
+    count_order,
+    count_none,
     entry_order,
     time,
     core_shard,
@@ -86,6 +90,31 @@ fn local(random: &mut Random, image: &mut Image) -> Option<()> {
 
 fn span(random: &mut Random, image: &mut Image) -> Option<()> {
     image.head[random.between(1, 3) as usize] = random.pick(&NO_SPANS);
+    Some(())
+}
+
+/// A count of no shard, at the end where it is in order; in place of one where the counts are all that there may be.
+fn count_shard(random: &mut Random, image: &mut Image) -> Option<()> {
+    let none = random.pick(&NO_SHARDS);
+    image.counts.truncate(COUNTS - 1);
+    image.counts.push([none, 1]);
+    image.counts.sort_unstable();
+    Some(())
+}
+
+/// Two counts swapped, one said twice, or two of one shard.
+fn count_order(random: &mut Random, image: &mut Image) -> Option<()> {
+    let local = image.head[0];
+    match image.counts.len() {
+        0 => image.counts.extend([[local, 1], [local, 2]]),
+        1 => image.counts.push([image.counts[0][0], 1]),
+        _ => disorder(random, &mut image.counts)?,
+    }
+    Some(())
+}
+
+fn count_none(random: &mut Random, image: &mut Image) -> Option<()> {
+    counted(random, image)[1] = 0;
     Some(())
 }
 

@@ -1,6 +1,8 @@
 //! Brings one size of a snapshot to its limit or one over, with everything else as that size has it.
 
-use reference::{ABSENCES, CORE, DEPARTURES, DESTINATIONS, EDGES, ENTRIES, ROUTES};
+use reference::{
+    ABSENCES, CORE, COUNTS, DEPARTURES, DESTINATIONS, EDGES, ENTRIES, LAST_SHARD, ROUTES,
+};
 
 use super::{any, entry};
 use crate::image::Image;
@@ -59,6 +61,22 @@ pub fn fill_table(random: &mut Random, image: &mut Image) -> Option<()> {
             image.entries.push(last.clone());
         }
     }
+    Some(())
+}
+
+/// One below as many counts as there may be, as many, or one more: of the next shards that have none.
+pub fn fill_counts(random: &mut Random, image: &mut Image) -> Option<()> {
+    let size = random.pick(&[COUNTS - 1, COUNTS, COUNTS, COUNTS + 1]);
+    let first = random.pick(&[1, image.head[0], LAST_SHARD - size as u64]);
+    for shard in (first..=LAST_SHARD).chain(1..first) {
+        let known = image.counts.iter().any(|pair| pair[0] == shard);
+        if image.counts.len() >= size {
+            break;
+        } else if !known {
+            image.counts.push([shard, random.between(1, 3)]);
+        }
+    }
+    image.counts.sort_unstable();
     Some(())
 }
 

@@ -41,10 +41,19 @@ fn near(random: &mut Random, words: &[u64], at: usize) -> u64 {
     ])
 }
 
-/// The number of entries or of departures, or one of an entry's first three sizes.
+/// The place of the number of counts.
+const COUNTS: usize = 4;
+
+/// The place of the number of entries, behind the counts.
+fn entries(words: &[u64]) -> usize {
+    COUNTS + 1 + 2 * words.get(COUNTS).map_or(0, |k| *k as usize % 64)
+}
+
+/// The number of counts, entries or departures, or one of an entry's first three sizes.
 fn sizes(random: &mut Random, words: &mut [u64]) {
-    let first = 7 + words.get(5).map_or(0, |n| *n as usize % 64);
-    let at = random.pick(&[5, 6, first, first + 1, first + 2]);
+    let n = entries(words);
+    let first = n + 2 + words.get(n).map_or(0, |n| *n as usize % 64);
+    let at = random.pick(&[COUNTS, n, n + 1, first, first + 1, first + 2]);
     let Some(size) = words.get_mut(at) else {
         return;
     };
@@ -57,8 +66,9 @@ fn sizes(random: &mut Random, words: &mut [u64]) {
 
 /// A length one off, or two that make up for each other.
 fn lengths(random: &mut Random, words: &mut [u64]) {
-    let many = words.get(5).map_or(0, |n| *n as usize);
-    let Some(lengths) = words.get_mut(7..).and_then(|rest| rest.get_mut(..many)) else {
+    let n = entries(words);
+    let many = words.get(n).map_or(0, |n| *n as usize);
+    let Some(lengths) = words.get_mut(n + 2..).and_then(|rest| rest.get_mut(..many)) else {
         return;
     };
     let Some(last) = lengths.len().checked_sub(1) else {

@@ -1,6 +1,6 @@
 //! Draws bundles, of the same lines as scripts have: their items lean on the tables' edges and on each other, and some bundles are spoilt.
 
-use reference::{ABSENCES, DEPARTURES, ENTRIES, ITEMS, KINDS, MOST_NUMBERS};
+use reference::{ABSENCES, COUNTS, DEPARTURES, ENTRIES, ITEMS, KINDS, MOST_NUMBERS};
 
 use super::Maker;
 use crate::breaches::spoil;
@@ -10,10 +10,11 @@ use crate::items::{ABSENCE, ADMISSION, FINALIZATION, Item, RECORD, TERMINAL, joi
 const SPOILT: u64 = 25;
 const LEANING: u64 = 40;
 
-/// More shards, more transactions and fewer transactions than this let a bundle fill a table.
+/// More shards, more transactions and fewer transactions than this let a bundle fill a table; and about so many counts the counts.
 const MANY_SHARDS: usize = DEPARTURES;
 const MANY_TRANSACTIONS: u64 = 48;
 const FEW_TRANSACTIONS: u64 = 3;
+const MANY_COUNTS: usize = COUNTS - 8;
 
 impl Maker<'_> {
     pub(super) fn bundle(&mut self) -> Vec<u64> {
@@ -82,6 +83,8 @@ impl Maker<'_> {
     fn leaning(&mut self) -> Vec<Item> {
         if !self.random.percent(LEANING) {
             Vec::new()
+        } else if self.tally.counts.len() >= MANY_COUNTS {
+            self.records()
         } else if self.pools.shards.len() > MANY_SHARDS {
             self.terminals()
         } else if self.profile.transactions > MANY_TRANSACTIONS {
@@ -142,6 +145,33 @@ impl Maker<'_> {
             items.push(item);
         }
         items
+    }
+
+    /// Records of shards without a count, for the counts that there is room for, one fewer or one more; of one that has a count; and one that
+    /// only names.
+    fn records(&mut self) -> Vec<Item> {
+        let counts = &self.tally.counts;
+        let shards = self.pools.shards.iter().copied();
+        let others: Vec<u64> = shards.filter(|s| !counts.contains_key(s)).collect();
+        let counted = counts.keys().next_back().copied();
+        let count = self.about(COUNTS.saturating_sub(counts.len()));
+        let owed = self.owed();
+        let pool = self.pools.transactions.iter().copied();
+        let mut new = pool.filter(|t| !self.tally.owed.contains_key(t));
+        let mut pairs: Vec<(u64, Option<u64>)> = others
+            .iter()
+            .map(|shard| (*shard, new.next()))
+            .take(count)
+            .collect();
+        pairs.extend(counted.map(|shard| (shard, new.next())));
+        pairs.extend(others.last().map(|shard| (*shard, owed)));
+        let record = |(shard, transaction): (u64, Option<u64>)| {
+            let mut words = self.one_rebuilt();
+            words[1] = shard;
+            words[3] = transaction?;
+            Some(Item::of(RECORD, words))
+        };
+        pairs.into_iter().filter_map(record).collect()
     }
 
     /// A record of one group without routes.

@@ -40,20 +40,34 @@ pub fn check<'a>(
     Ok(())
 }
 
-/// The place of the running count of rebuilt entries in a dump.
-const COUNT: usize = 5;
+/// The place of the number of counts of rebuilt entries in a dump's answer; the pairs of shard and count stand behind it.
+const COUNTS: usize = 5;
 
-/// Whether the dumps after the first and after the second block are there and equal, but for the running count, which only rises.
+/// Whether the word at that place is a shard's count of rebuilt entries.
+fn is_count(words: &[&str], place: usize) -> bool {
+    let many: usize = words[COUNTS].parse().unwrap_or(0);
+    let behind = place.saturating_sub(COUNTS);
+    place > COUNTS && behind <= 2 * many && behind.is_multiple_of(2)
+}
+
+/// Whether the dumps after the first and after the second block are there and equal, but for the counts, which only rise.
 fn restored(setup: &str, block: &str, answers: &[u8]) -> bool {
     let text = String::from_utf8_lossy(answers);
     let answers: Vec<&str> = text.lines().collect();
     let first = setup.lines().count() + block.lines().count();
     let second = first + block.lines().count() + 1;
     let held = |place: usize| {
-        let words = answers[place].split(' ').enumerate();
-        words.filter(|(place, _)| *place != COUNT)
+        let mut words: Vec<&str> = answers[place].split(' ').collect();
+        for place in COUNTS + 1..words.len() {
+            words[place] = if is_count(&words, place) {
+                ""
+            } else {
+                words[place]
+            };
+        }
+        words
     };
-    answers.len() == second + 1 && held(first).eq(held(second))
+    answers.len() == second + 1 && held(first) == held(second)
 }
 
 /// What is timed of either case leads either program to the same ledger, from none: the dumps after it are equal.

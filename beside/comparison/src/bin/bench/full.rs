@@ -1,12 +1,13 @@
-//! The calls that go over all of a full ledger: prune, closes and the long lists.
+//! The calls that go over all of a full ledger: prune, closes, the long lists, and those that go over the counts of rebuilt entries.
 
 use crate::cases::{Case, Swap};
 use crate::ledgers::{
-    Entry, FULL, MAKING, departures, departures_on_one_path, line, rebuilt, record, settlements,
+    Entry, FULL, MAKING, UNKNOWN, abandonment, counted, counted_shard, departures,
+    departures_on_one_path, line, rebuilt, record, settlements,
 };
 
 pub fn cases() -> Vec<Case> {
-    [prunes(), closes(), lists()]
+    [prunes(), closes(), lists(), counts()]
         .into_iter()
         .flatten()
         .map(Case::pictured)
@@ -131,4 +132,26 @@ fn lists() -> Vec<Case> {
             "counterparts 25 32 lent 40",
         ),
     ]
+}
+
+/// 32 shards have a count.
+fn counts() -> Vec<Case> {
+    let setup = counted(FULL);
+    let row = |name, call: &str| Case::repeated(name, FULL, &setup, call.into());
+    vec![
+        row("rebuilt by shard, 32", "rebuilt_by_shard lent 64"),
+        row("rebuilt, the sum of 32 counts", "rebuilt"),
+        counting(),
+    ]
+}
+
+/// A record of a shard in the middle of the counts, on a ledger with room for what it rebuilds; the like of no shard is turned away.
+fn counting() -> Case {
+    let tx = FULL * 10;
+    let setup = counted(FULL - 1);
+    let goes = |tx| line("forget", &[tx]);
+    let with = vec![abandonment(counted_shard(16), tx), goes(tx)];
+    let without = vec![abandonment(0, tx), goes(UNKNOWN)];
+    let name = "abandonment record, the 17th of 32 counts, and forget";
+    Case::swapped(name, FULL - 1, &setup, Swap::of_all(with, without))
 }

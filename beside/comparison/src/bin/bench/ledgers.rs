@@ -161,6 +161,31 @@ pub fn rebuilt(count: u64) -> Vec<String> {
     vec![MAKING.to_string(), line("record_abandonment", &words)]
 }
 
+/// How many shards have a count of rebuilt entries in a ledger that has all that it may have.
+const COUNTED: u64 = 32;
+
+/// The n-th of these shards, by their rising numbers.
+pub fn counted_shard(n: u64) -> u64 {
+    40 + 2 * n
+}
+
+/// A ledger with so many entries, whole and without routes, and with a count for each of 32 shards: a record of each rebuilds one, and the last's the
+/// others too.
+pub fn counted(count: u64) -> Vec<String> {
+    let record = |n: u64| {
+        let last = if n + 1 == COUNTED { count } else { n + 1 };
+        let txs = n + 1..=last;
+        let groups: Vec<u64> = txs.flat_map(|tx| [tx, 1000, 2000, 10, 77]).collect();
+        let head = [
+            vec![last - n, counted_shard(n)],
+            vec![0; (last - n) as usize],
+        ];
+        line("record_abandonment", &[head.concat(), groups].concat())
+    };
+    let records = (0..COUNTED).map(record);
+    [MAKING.to_string()].into_iter().chain(records).collect()
+}
+
 /// A finalization that accepts and decides these transactions.
 pub fn finalization(txs: &[u64]) -> String {
     let n = txs.len() as u64;

@@ -27,7 +27,7 @@ const INTRODUCTION: [&str; 5] = [
      is told.",
     "On an empty ledger calls name transactions that are not owed. Where all fall or close, what the Rust frees drops out too: \
      the making that begins either block would free it. Of makings that are repeated nothing is read but the last, so the compiler may make \
-     that one alone. `dump` is the script's own and is not timed.",
+     that one alone. The Rust has no counts by shard: those that are kept beside it, in a map, are in its figures. `dump` is the script's own and is not timed.",
 ];
 
 const OF_BUNDLES: [&str; 3] = [

@@ -13,7 +13,7 @@ use Rattle.entry.specs.Entry.{plain_entry}
 use Rattle.ledger.specs.Contents.{lying_at}
 use Rattle.ledger.specs.declared.Ledger.{Ledger}
 use Rattle.ledger.proofs.Places.{AtSlot, found_at}
-use Rattle.batches.proofs.Rebuilding.{passes_by, turned_away, rebuilding, rebuilt-few, rebuilt-all, group_owed, group_room, group_new, ranks_within}
+use Rattle.batches.proofs.Rebuilding.{passes_by, turned_away, rebuilding, rebuilt-few, countable, rebuilt-all, group_owed, group_room, group_new, ranks_within}
 use Rattle.batches.proofs.abandonment.record_abandonment.Goals as goal
 use Rattle.batches.proofs.abandonment.record_abandonment.Goals.{in-Some, in-None}
 
@@ -76,9 +76,17 @@ loop-i-preserved c =
       | in-None w ↦ rw (w.ledger-is, w.rebuilt-is, c.reach_at-at.ensures) (group_new c.args.ledger.now ws passes l c.loop-i.at c.loop-i.rebuilt c.loop-i.i c.loop-i.invariant (omega (arith, c.loop-i-test.true, c.len-i-end.ensures)) _ here words _ _ (sym c.find.ensures ∙ w.in-None.is) w.rank-k.ensures w.insert_at.ensures w.group-e.result w.group-e.ensures _)
     ]
 
+pub count_rebuilt-requires : goal.count_rebuilt-requires
+count_rebuilt-requires c =
+    let ws = c.in_ok-groups.groups.words.now in
+    let passes = passes_by c.args.ledger.now c.args.words.now ws c.requires c.in_ok-groups.ensures.refused c.in_ok-groups.ensures.read in
+    rw c.shard-shard.ensures
+    (countable c.args.ledger.now ws c.loop-i.ledger c.loop-i.at c.loop-i.rebuilt c.loop-i.i passes c.loop-i.invariant (omega (arith, c.loop-i-test.false, c.len-i-end.ensures)))
+
 pub returns : goal.returns
 returns c =
     let ws = c.in_ok-groups.groups.words.now in
-    let l : Ledger = c.loop-i.ledger in
-    rebuilt-all c.args.ledger.now ws l c.loop-i.at c.loop-i.rebuilt c.loop-i.i _ c.requires (rw (sym c.in_ok-groups.ensures.read) at c.in_ok-groups.ensures.refused) c.in_ok-groups.groups.formed
-    c.loop-i.invariant (omega (arith, c.loop-i-test.false, c.len-i-end.ensures)) c.saturating_add-ledger.ensures c.args.words.now c.in_ok-groups.ensures.read _
+    let passes = passes_by c.args.ledger.now c.args.words.now ws c.requires c.in_ok-groups.ensures.refused c.in_ok-groups.ensures.read in
+    rw (sym c.in_ok-groups.ensures.read)
+    (rebuilt-all c.args.ledger.now ws c.loop-i.ledger c.loop-i.at c.loop-i.rebuilt c.loop-i.i passes c.loop-i.invariant (omega (arith, c.loop-i-test.false, c.len-i-end.ensures))
+    _ (rw c.shard-shard.ensures at c.count_rebuilt.ensures) c.requires (rw (sym c.in_ok-groups.ensures.read) at c.in_ok-groups.ensures.refused))

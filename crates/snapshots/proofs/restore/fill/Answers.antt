@@ -1,43 +1,50 @@
--- The departures and then the entries, each where its words stand.
-use Rattle.std.proofs.Common.{◌∙◌, ◌+◌, ◌-◌, ◌*◌, ap, arith, drop, length, length-drop}
-use Rattle.lists.specs.Lists.{part, rows}
-use Rattle.snapshots.proofs.Filling.{formed_of, gone_at, none_gone, not_filed, ready, filled}
+-- The counts, the departures and then the entries, each where its words stand.
+use Rattle.std.proofs.Common.{arith}
+use Rattle.snapshots.proofs.Forms.{entries_told, lengths-are, joined-are}
+use Rattle.snapshots.proofs.Filling.{formed_of, ready_counts, not_counted, ready_departures, not_filed, ready_entries, filled}
 use Rattle.snapshots.proofs.restore.fill.Goals as goal
 
-pub overflow_mul-m : goal.overflow_mul-m
-overflow_mul-m c = let f = formed_of c.args.words.now c.requires.formed in omega (arith, f.few_gone, c.size_at-m.ensures)
+pub take_counts-requires : goal.take_counts-requires
+take_counts-requires c = ready_counts _ _ c.requires
 
-pub overflow_sub-words : goal.overflow_sub-words
-overflow_sub-words c = let f = formed_of c.args.words.now c.requires.formed in omega (arith, f.exact, c.size_at-m.ensures)
+pub returns-then-not-take_counts : goal.returns-then-not-take_counts
+returns-then-not-take_counts c = not_counted _ _ c.requires _ _ c.take_counts.ensures c.if-not-take_counts.true _
 
-pub overflow_add-n : goal.overflow_add-n
-overflow_add-n c = let f = formed_of c.args.words.now c.requires.formed in omega (arith, f.few, c.size_at-n.ensures)
+pub take_departures-requires : goal.take_departures-requires
+take_departures-requires c = ready_departures _ _ c.requires _ _ c.take_counts.ensures c.if-not-take_counts.false
 
-pub split_at-requires-2 : goal.split_at-requires-2
-split_at-requires-2 c = let f = formed_of c.args.words.now c.requires.formed in omega (arith, f.exact, c.size_at-n.ensures)
+pub returns-then-not-take_departures : goal.returns-then-not-take_departures
+returns-then-not-take_departures c =
+    not_filed _ _ c.requires _ _ c.take_counts.ensures c.if-not-take_counts.false _ _ c.take_departures.ensures c.if-not-take_departures.true _
 
-pub file_all-requires : goal.file_all-requires
-file_all-requires c =
-    let f = formed_of c.args.words.now c.requires.formed in
-    (none_gone _ _ c.requires, omega (arith, f.few_gone, c.size_at-m.ensures), omega (arith, f.exact, c.size_at-m.ensures, ap length c.split_at.ensures.back, length-drop (length c.args.words.now - 4 * c.size_at-m.result) c.args.words.now))
+pub sizes_at-at-requires : goal.sizes_at-at-requires
+sizes_at-at-requires c = (formed_of c.args.words.now c.requires.formed).few_counts
 
-pub returns-then-not-file_all : goal.returns-then-not-file_all
-returns-then-not-file_all c =
+pub overflow_add-at : goal.overflow_add-at
+overflow_add-at c = omega (arith, c.sizes_at-at.ensures, (formed_of c.args.words.now c.requires.formed).few_counts)
+
+pub overflow_add-at-2 : goal.overflow_add-at-2
+overflow_add-at-2 c =
     let ws = c.args.words.now in
-    let rows-are = ap (rows 4 c.size_at-m.result) c.split_at.ensures.back ∙ gone_at ws _ c.requires c.size_at-m.result c.size_at-m.ensures in
-    not_filed ws _ c.requires c.file_all.new.departures c.file_all.result (rw rows-are at c.file_all.ensures) c.if-not-file_all.true _
+    let f = formed_of ws c.requires.formed in
+    omega (arith, c.sizes_at-at.ensures, entries_told ws _ c.size_at-n.result c.sizes_at-at.ensures c.size_at-n.ensures, f.few_counts, f.few)
+
+pub split_at-requires : goal.split_at-requires
+split_at-requires c =
+    let ws = c.args.words.now in
+    omega (arith, c.sizes_at-at.ensures, entries_told ws _ c.size_at-n.result c.sizes_at-at.ensures c.size_at-n.ensures, (formed_of ws c.requires.formed).exact)
 
 pub take_entries-requires : goal.take_entries-requires
 take_entries-requires c =
     let ws = c.args.words.now in
-    let rows-are = ap (rows 4 c.size_at-m.result) c.split_at.ensures.back ∙ gone_at ws _ c.requires c.size_at-m.result c.size_at-m.ensures in
-    ready ws _ c.requires c.file_all.new.departures c.file_all.result (rw rows-are at c.file_all.ensures) c.if-not-file_all.false _ c.word_at-ledger.result c.word_at-ledger.ensures (omega arith)
-    c.part.result.now c.split_at-2.result.1.now (c.part.ensures ∙ ap (λ k. part 7 k ws) c.size_at-n.ensures) (c.split_at-2.ensures.back ∙ ap (λ k. drop (7 + k) ws) c.size_at-n.ensures)
+    ready_entries _ _ c.requires _ _ c.take_counts.ensures c.if-not-take_counts.false _ _ c.take_departures.ensures c.if-not-take_departures.false _ _
+    (lengths-are ws _ c.size_at-n.result c.sizes_at-at.ensures _ c.size_at-n.ensures c.part.ensures)
+    (joined-are ws _ c.size_at-n.result c.sizes_at-at.ensures _ c.size_at-n.ensures c.split_at.ensures.back)
 
 pub returns : goal.returns
 returns c =
     let ws = c.args.words.now in
-    let rows-are = ap (rows 4 c.size_at-m.result) c.split_at.ensures.back ∙ gone_at ws _ c.requires c.size_at-m.result c.size_at-m.ensures in
-    filled ws _ c.requires c.file_all.new.departures c.file_all.result (rw rows-are at c.file_all.ensures) c.if-not-file_all.false _ c.word_at-ledger.result c.word_at-ledger.ensures (omega arith)
-    c.part.result.now c.split_at-2.result.1.now (c.part.ensures ∙ ap (λ k. part 7 k ws) c.size_at-n.ensures) (c.split_at-2.ensures.back ∙ ap (λ k. drop (7 + k) ws) c.size_at-n.ensures)
-    c.take_entries.new.ledger c.take_entries.result c.take_entries.ensures
+    filled _ _ c.requires _ _ c.take_counts.ensures c.if-not-take_counts.false _ _ c.take_departures.ensures c.if-not-take_departures.false _ _
+    (lengths-are ws _ c.size_at-n.result c.sizes_at-at.ensures _ c.size_at-n.ensures c.part.ensures)
+    (joined-are ws _ c.size_at-n.result c.sizes_at-at.ensures _ c.size_at-n.ensures c.split_at.ensures.back)
+    _ _ c.take_entries.ensures

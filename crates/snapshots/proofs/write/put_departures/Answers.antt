@@ -1,26 +1,22 @@
 -- Each departure is a row.
-use Rattle.std.proofs.Common.{◌≡◌, ◌+◌, ◌++◌, ◌<◌, ◌≤◌, [], ℕ, List, None, ap, arith, drop, length, get_or}
-use Rattle.std.proofs.Math.ListN.{length-map}
+use Rattle.std.proofs.Common.{◌≡◌, ◌+◌, ◌++◌, ◌<◌, ℕ, List, None, ap, arith, drop, length, get_or}
 use Rattle.lists.specs.Lists.{concat_map}
 use Rattle.lists.specs.Front.{held}
-use Rattle.lists.proofs.Cuts.{rest-none}
+use Rattle.lists.proofs.Held.{next_held, none_held}
 use Rattle.rules.specs.Snapshot.{departure_words}
 use Rattle.rules.proofs.SnapshotRead.{departure-length}
 use Rattle.store.specs.declared.departures.Departure.{Departure}
 use Rattle.store.specs.declared.departures.Departures.{Departures}
 use Rattle.store.specs.Departures.{on_file}
 use Rattle.store.specs.Stored.{plain_departure}
-use Rattle.snapshots.proofs.Putting.{none_yet, one_put, all_put, room, next_row}
+use Rattle.snapshots.proofs.Putting.{none_yet, one_put, all_put, room}
 use Rattle.snapshots.proofs.Writing.{file-size}
 use Rattle.snapshots.proofs.write.put_departures.Goals as goal
 
--- the next of the departures, and that none is left
+-- the next of the departures
 next : (x : Departures) (xs : List Departure) → xs ≡ held x.front → (i : ℕ) (d : Departure) → i < length xs →
     concat_map departure_words (drop i (on_file x)) ≡ departure_words (plain_departure (get_or xs i d)) ++ concat_map departure_words (drop (i + 1) (on_file x))
-next x xs e i d h = rw e (next_row plain_departure departure_words (held x.front) i d (rw e at h))
-
-left : (x : Departures) (xs : List Departure) → xs ≡ held x.front → (i : ℕ) → length xs ≤ i → drop i (on_file x) ≡ []
-left x xs e i h = rest-none (on_file x) i (omega (arith, h, ap length e, length-map (held x.front) plain_departure))
+next x xs e i d h = ap (concat_map departure_words) (next_held x.front plain_departure xs e i d h)
 
 none : Departure
 none = record { shard = record { 0 = 0 }; cut = record { 0 = 0 }; until = None }
@@ -48,4 +44,4 @@ pub returns : goal.returns
 returns c =
     let l = c.loop-d in
     let x = c.args.departures.now in
-    all_put (concat_map departure_words (drop l.d-index (on_file x))) (ap (concat_map departure_words) (left x c.as_slice-d-items.result.now c.as_slice-d-items.ensures l.d-index c.loop-d-test.false)) l.invariant
+    all_put (concat_map departure_words (drop l.d-index (on_file x))) (ap (concat_map departure_words) (none_held x.front plain_departure c.as_slice-d-items.result.now c.as_slice-d-items.ensures l.d-index c.loop-d-test.false)) l.invariant

@@ -1,9 +1,9 @@
--- The seven words.
+-- The five words.
 use Rattle.ledger.specs.Contents.{contents}
-use Rattle.ledger.proofs.Places.{entries-length}
-use Rattle.store.proofs.Filed.{file-length}
+use Rattle.lists.proofs.Held.{mapped-length}
+use Rattle.store.specs.Counts.{plain_count}
 use Rattle.snapshots.proofs.write.put_frame.Goals as goal
 
 pub returns : goal.returns
 unfolding contents
-returns c = let a = c.args.ledger.now in rw (entries-length a c.requires.0, file-length a.departures) c.put.ensures
+returns c = let a = c.args.ledger.now in rw (mapped-length a.counts.front plain_count) c.put.ensures

@@ -1,4 +1,4 @@
--- 5,895 words hold every snapshot, so the reading is not refused.
+-- 5,959 words hold every snapshot, so the reading is not refused.
 use Rattle.snapshots.proofs.Whole.{whole}
 use Rattle.snapshots.proofs.write.whole_snapshot.Goals as goal
 
