@@ -5,11 +5,12 @@ BEGIN {
     meaning[6] = "too few free entries"; meaning[7] = "eight absences stand already"; meaning[8] = "32 departures stand already"
     meaning[9] = "the lent list is too short"; meaning[10] = "an item is of an unknown kind"; meaning[11] = "the bundle's number, kinds and lengths do not make up its words"
     meaning[12] = "the words have not the form of a snapshot"; meaning[13] = "the words are no ledger's snapshot"
-    meaning[14] = "32 other shards have a count already"
-    # how many numbers each call takes, -1 for any
+    meaning[14] = "32 other shards have a count already"; meaning[15] = "the marks make up no tree"; meaning[16] = "the tree is too large or too deep"
+    # how many numbers each call takes, -1 for any, -2 for one and any behind it
     takes("new 4 restore -1 snapshot 0 register_committed -1 record_absence 3 certify 2 record_abandonment -1 settled 2 returned 2 closes 0 fated 1 release_resolved -1")
     takes("forget 1 record_terminal 4 stamp_terminal 2 prune 1 bundle -1 questions 0 open_at 6 answers 7 past_deadline 1 issuers_of 1 claimants 2 counterparts 2")
     takes("unstamped_departures 0 reach 1 abandonment_answers 1 is_covered 1 departed 1 executed 1 reaches_beyond 1 issued_by 2 local 0 rebuilt 0 rebuilt_by_shard 0 dump 0 repeat 1")
+    takes("leaf_for_route -2 leaves -1 counterparts_by_tree -2")
     split("whole leg core remainder", parts, " ")
     while ((getline line < script) > 0) {
         if (line ~ /^#/ || line == "") { print line; continue }
@@ -57,6 +58,7 @@ function reason(line,    w, k, i, many) {
     if (many < k - 1 && large(w[k], "8192")) return "a list has at most 8,192 words"
     if (many > 8192) return "a line has at most 8,192 numbers"
     if (count[w[1]] >= 0 && many != count[w[1]]) return w[1] " takes " count[w[1]] (count[w[1]] == 1 ? " number" : " numbers") ", and here are " many
+    if (count[w[1]] == -2 && many == 0) return w[1] " takes a number ahead of its marks, and here is none"
     if (w[1] == "repeat" && w[2] ~ /^0+$/) return "a repeat is from 1"
     return ""
 }

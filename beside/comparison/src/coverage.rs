@@ -12,8 +12,9 @@ use crate::limits::Limits;
 use crate::prunes::{Judged, Prunes, Rule};
 use crate::series::{Listener, Pairs};
 use crate::snapshots::Snapshots;
+use crate::trees::Trees;
 
-const REFUSALS: usize = 15;
+const REFUSALS: usize = 17;
 const REMAINDER: u64 = 3;
 
 #[derive(Default)]
@@ -24,6 +25,7 @@ pub struct Coverage {
     bundles: Bundles,
     snapshots: Snapshots,
     counts: Counts,
+    trees: Trees,
     prunes: Prunes,
     pairs: Pairs,
     left_out: LeftOut,
@@ -95,6 +97,11 @@ impl Coverage {
         &self.counts
     }
 
+    /// How trees went, and what was asked of them.
+    pub fn trees(&self) -> &Trees {
+        &self.trees
+    }
+
     /// How often several prunes were set against one.
     pub fn pairs(&self) -> Pairs {
         self.pairs
@@ -131,6 +138,9 @@ impl Coverage {
             "restore" => self.snapshots.read(&runner.numbers, reply),
             "rebuilt" => self.counts.sum(reply, &runner.book),
             "rebuilt_by_shard" => self.counts.list(reply, &runner.book),
+            "leaf_for_route" | "leaves" | "counterparts_by_tree" => {
+                self.trees.count(&runner.numbers, reply, &runner.book);
+            }
             _ => {}
         }
         if reply.status != 0 {
@@ -177,20 +187,11 @@ impl fmt::Display for Coverage {
             "{} scripts, of which {} stop at a malformed line",
             self.scripts, self.malformed
         )?;
-        writeln!(
-            f,
-            "call                  accepted  said more than 0   refused (number: how often)"
-        )?;
-        for (call, (statuses, said)) in CALLS.iter().zip(&self.calls.0) {
-            write!(f, "{:<21} {:>8} {:>17}  ", call.name, statuses[0], said)?;
-            for (number, count) in statuses.iter().enumerate().skip(1).filter(|(_, n)| **n > 0) {
-                write!(f, " {number}: {count}")?;
-            }
-            writeln!(f)?;
-        }
+        writeln!(f, "{}", self.calls)?;
         writeln!(f, "{}", self.bundles)?;
         writeln!(f, "{}", self.snapshots)?;
         writeln!(f, "{}", self.counts)?;
+        writeln!(f, "{}", self.trees)?;
         writeln!(f, "{}", self.prunes)?;
         let Pairs {
             equal,
@@ -210,5 +211,21 @@ impl fmt::Display for Coverage {
         )?;
         writeln!(f, "cores turned to remainders: {}", self.remainders)?;
         write!(f, "{}", self.limits)
+    }
+}
+
+impl fmt::Display for Calls {
+    fn fmt(&self, f: &mut fmt::Formatter) -> fmt::Result {
+        write!(
+            f,
+            "call                  accepted  said more than 0   refused (number: how often)"
+        )?;
+        for (call, (statuses, said)) in CALLS.iter().zip(&self.0) {
+            write!(f, "\n{:<21} {:>8} {:>17}  ", call.name, statuses[0], said)?;
+            for (number, count) in statuses.iter().enumerate().skip(1).filter(|(_, n)| **n > 0) {
+                write!(f, " {number}: {count}")?;
+            }
+        }
+        Ok(())
     }
 }

@@ -25,3 +25,5 @@ pub mod sides;
 pub mod snapshots;
 pub mod steps;
 pub mod stretches;
+pub mod tree;
+pub mod trees;

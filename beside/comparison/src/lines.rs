@@ -1,6 +1,7 @@
 //! The numbers of each call, drawn from the pools and steered by what the ledger holds.
 
 mod bundling;
+mod growing;
 mod restoring;
 
 pub use bundling::shuffle;
@@ -38,7 +39,7 @@ type Draw<'a> = fn(&mut Maker<'a>) -> Vec<u64>;
 
 impl<'a> Maker<'a> {
     /// Each call with its usual weight.
-    pub const DRAWS: [(&'static str, u64, Draw<'a>); 36] = [
+    pub const DRAWS: [(&'static str, u64, Draw<'a>); 39] = [
         ("new", 1, Self::making),
         ("restore", 20, Self::snapshot),
         ("register_committed", 30, Self::admission),
@@ -73,6 +74,9 @@ impl<'a> Maker<'a> {
         ("local", 1, Self::nothing),
         ("rebuilt", 1, Self::nothing),
         ("rebuilt_by_shard", 3, Self::nothing),
+        ("leaf_for_route", 4, Self::route_and_marks),
+        ("leaves", 3, Self::marks),
+        ("counterparts_by_tree", 4, Self::transaction_and_marks),
         ("snapshot", 3, Self::nothing),
         ("dump", 3, Self::nothing),
     ];

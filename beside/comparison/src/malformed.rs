@@ -1,6 +1,6 @@
 //! Scripts that stop early or end oddly: lines that are none of the format's.
 
-use reference::{Call, MOST_LENT, MOST_NUMBERS};
+use reference::{Call, MOST_LENT, MOST_NUMBERS, Numbers};
 
 use crate::random::Random;
 use crate::scripts::Names;
@@ -49,6 +49,11 @@ pub fn spoil(random: &mut Random, text: Vec<u8>, names: &Names) -> Vec<u8> {
             let line = random.pick(&NAMELESS);
             insert(random, &text, line)
         }
+        8 if !bare_calls(names).is_empty() => {
+            let line = random.pick(&bare_calls(names)).name;
+            let lent = random.pick(&["", "", " lent 4"]);
+            insert(random, &text, format!("{line}{lent}").as_bytes())
+        }
         _ => {
             let call = random.pick(&names.calls());
             let line = spoilt_line(random, call);
@@ -57,11 +62,18 @@ pub fn spoil(random: &mut Random, text: Vec<u8>, names: &Names) -> Vec<u8> {
     }
 }
 
+/// The calls that lack a number when they have none, though they take any count behind it.
+fn bare_calls(names: &Names) -> Vec<&'static Call> {
+    let mut calls = names.calls();
+    calls.retain(|call| call.numbers.any_count() && call.numbers.least() > 0);
+    calls
+}
+
 /// A line of as many numbers as there may be, or one off that, each with one digit or with the most that it needs.
 fn longest_line(random: &mut Random, names: &Names) -> Vec<u8> {
     let mut calls = names.calls();
-    if calls.iter().any(|call| call.numbers.is_none()) {
-        calls.retain(|call| call.numbers.is_none());
+    if calls.iter().any(|call| call.numbers.any_count()) {
+        calls.retain(|call| call.numbers.any_count());
     }
     let name = random.pick(&calls).name;
     let most = MOST_NUMBERS as u64;
@@ -86,7 +98,10 @@ fn insert(random: &mut Random, text: &[u8], line: &[u8]) -> Vec<u8> {
 /// A call's line that the grammar, the count or a bound does not allow; at times one that it
 /// does, since zeros may lead a number.
 fn spoilt_line(random: &mut Random, call: &Call) -> Vec<u8> {
-    let count = call.numbers.unwrap_or(9);
+    let count = match call.numbers {
+        Numbers::Behind(0) => 9,
+        Numbers::Exactly(count) | Numbers::Behind(count) => count,
+    };
     let name = call.name;
     let good = format!("{name}{}", " 1".repeat(count));
     let line = match random.below(18) {

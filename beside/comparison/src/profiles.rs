@@ -290,8 +290,26 @@ const COUNTS: Profile = Profile {
     ..MIXED
 };
 
+/// Trees over entries whose routes' shards depart.
+const TREES: Profile = Profile {
+    transactions: 6,
+    shards: 8,
+    routes: 8,
+    wide: 10,
+    fill: (6, "register_committed"),
+    lines: (20, 50),
+    favour: &[
+        "counterparts_by_tree",
+        "counterparts_by_tree",
+        "leaf_for_route",
+        "leaves",
+        "record_terminal",
+    ],
+    ..DEPARTING
+};
+
 /// Each with its weight.
-const PROFILES: [(u64, &Profile); 20] = [
+const PROFILES: [(u64, &Profile); 21] = [
     (20, &MIXED),
     (6, &FULL),
     (2, &BRIM),
@@ -312,6 +330,7 @@ const PROFILES: [(u64, &Profile); 20] = [
     (6, &RECORDS),
     (4, &RECORDED_BLOCKS),
     (12, &COUNTS),
+    (10, &TREES),
 ];
 
 pub fn pick(random: &mut Random) -> &'static Profile {

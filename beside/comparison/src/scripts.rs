@@ -1,6 +1,8 @@
 //! Puts lines together to a script, running each on the Rust to know what stands.
 
-use reference::{CALLS, Call, FILLER, Given, LONGEST_SPAN, MOST_LENT, Reply, Runner, call_named};
+use reference::{
+    CALLS, Call, FILLER, Given, LONGEST_SPAN, MOST_LENT, MOST_NUMBERS, Reply, Runner, call_named,
+};
 
 use crate::breaches::spoil;
 use crate::image;
@@ -12,6 +14,7 @@ use crate::profiles::{self, Profile};
 use crate::random::Random;
 use crate::series;
 use crate::stretches;
+use crate::tree::Tree;
 
 /// Lent to a call that is refused whatever its list.
 const SOME_WORDS: u64 = 4;
@@ -259,6 +262,9 @@ impl<'a> Writer<'a> {
         if let Some(words) = before {
             self.put_back(&words);
         }
+        if name == "counterparts_by_tree" && self.random.percent(60) {
+            self.by_depth(&numbers);
+        }
         if matches!(name, "settled" | "returned") && self.random.percent(40) {
             self.mark_all(name, numbers[1]);
         }
@@ -273,6 +279,15 @@ impl<'a> Writer<'a> {
         let refused = last.is_some_and(|reply| reply.status != 0);
         if refused && self.random.percent(PUT_BACK) {
             self.line("restore", words, None);
+        }
+    }
+
+    /// Behind counterparts by a uniform tree those by its depth.
+    fn by_depth(&mut self, numbers: &[u64]) {
+        let tree = Tree::read(&numbers[1..]).ok();
+        let depth = tree.and_then(|tree| tree.uniform_depth());
+        if let (Some(depth), true) = (depth, self.names.has("counterparts")) {
+            self.list_call("counterparts", &[numbers[0], u64::from(depth)]);
         }
     }
 
@@ -295,7 +310,8 @@ impl<'a> Writer<'a> {
             .find(|(known, _, _)| *known == name)?;
         let tally = self.runner.book.tally();
         let call = call_named(name.as_bytes()).expect("every draw has a call");
-        let over = breach && call.numbers.is_none() && self.random.percent(40);
+        let any_count = call.numbers.any_count();
+        let over = breach && any_count && self.random.percent(40);
         let mut maker = Maker {
             random: self.random,
             pools: &self.pools,
@@ -308,8 +324,11 @@ impl<'a> Writer<'a> {
         };
         let mut numbers = draw(&mut maker);
         if breach && !over {
-            spoil(self.random, &mut numbers, call.numbers.is_none());
+            spoil(self.random, &mut numbers, any_count);
         }
+        // A line without what stands ahead of its words, or with too many of them, would end the script.
+        let fitting = numbers.len().clamp(call.numbers.least(), MOST_NUMBERS);
+        numbers.resize(fitting, 0);
         Some((call, numbers))
     }
 

@@ -34,7 +34,8 @@ pub fn shorten(script: &[u8], mut differs: impl FnMut(&[u8]) -> bool) -> Vec<u8>
     lines.concat()
 }
 
-/// Then drop items of bundles, each with its kind, its length and its words; and entries, departures and counts of snapshots that are restored.
+/// Then drop items of bundles, each with its kind, its length and its words; entries, departures and counts of snapshots that are restored; and
+/// splits and marks of trees.
 pub fn thin(script: &[u8], mut differs: impl FnMut(&[u8]) -> bool) -> Vec<u8> {
     let mut lines: Vec<Vec<u8>> = script
         .split_inclusive(|byte| *byte == b'\n')
@@ -62,14 +63,28 @@ pub fn thin(script: &[u8], mut differs: impl FnMut(&[u8]) -> bool) -> Vec<u8> {
 fn without_part(text: &[u8], place: usize) -> Option<Vec<u8>> {
     let text = std::str::from_utf8(text).ok()?.strip_suffix('\n')?;
     let (name, numbers) = text.split_once(' ')?;
+    let (numbers, lent) = match numbers.split_once(" lent ") {
+        Some((numbers, lent)) => (numbers, Some(lent.parse().ok()?)),
+        None => (numbers, None),
+    };
     let numbers = numbers.split(' ').map(str::parse);
     let numbers = numbers.collect::<Result<Vec<u64>, _>>().ok()?;
     let numbers = match name {
         "bundle" => without_item(&numbers, place)?,
         "restore" => without_held(&numbers, place)?,
+        "leaves" => without_mark(&numbers, 0, place)?,
+        "leaf_for_route" | "counterparts_by_tree" => without_mark(&numbers, 1, place)?,
         _ => return None,
     };
-    Some((line(name, &numbers, None) + "\n").into_bytes())
+    Some((line(name, &numbers, lent) + "\n").into_bytes())
+}
+
+/// A leaf in place of a split of two leaves or, told behind these, a mark less. So many numbers stand ahead of the marks.
+fn without_mark(numbers: &[u64], ahead: usize, place: usize) -> Option<Vec<u64>> {
+    let splits = (ahead..numbers.len()).filter(|at| numbers[*at..].starts_with(&[1, 0, 0]));
+    let folded = splits.map(|at| [&numbers[..at], &numbers[at + 2..]].concat());
+    let dropped = (ahead..numbers.len()).map(|at| [&numbers[..at], &numbers[at + 1..]].concat());
+    folded.chain(dropped).nth(place)
 }
 
 fn without_item(numbers: &[u64], place: usize) -> Option<Vec<u64>> {

@@ -10,10 +10,11 @@ use comparison::coverage::Coverage;
 use comparison::prunes::{RULES, Rule};
 use comparison::scripts::{Names, script};
 use comparison::snapshots::{HELD, ROOMS};
-use reference::{BREAKS, FAULTS};
+use comparison::trees::{LEAVES, MET, PLACES, UNIFORM, WHYS};
+use reference::{BREAKS, FAULTS, LOWEST_LEAF};
 
 /// Each call with the refusals that the paper's table allows it.
-const REFUSALS: [(&str, &[u64]); 23] = [
+const REFUSALS: [(&str, &[u64]); 26] = [
     ("new", &[1, 2]),
     ("restore", &[12, 13]),
     ("register_committed", &[3, 4, 5, 6]),
@@ -36,6 +37,9 @@ const REFUSALS: [(&str, &[u64]); 23] = [
     ("unstamped_departures", &[9]),
     ("reach", &[9]),
     ("rebuilt_by_shard", &[9]),
+    ("leaf_for_route", &[15, 16]),
+    ("leaves", &[9, 15, 16]),
+    ("counterparts_by_tree", &[9, 15, 16]),
     ("snapshot", &[9]),
 ];
 
@@ -148,6 +152,36 @@ fn counts_come_to_every_edge() {
     for (room, name) in ROOMS {
         assert!(counts.with_room(room) > 100, "{name}: {coverage}");
     }
+}
+
+/// Trees of every size and depth, routes at every end, every breach, and each uniform tree beside its depth.
+#[test]
+fn trees_come_to_every_edge() {
+    let coverage = &*COVERAGE;
+    let trees = coverage.trees();
+    for leaves in 1..=LEAVES {
+        assert!(trees.with_leaves(leaves) > 50, "{leaves}: {coverage}");
+    }
+    for height in 0..=LOWEST_LEAF {
+        assert!(trees.with_height(height) > 50, "{height}: {coverage}");
+    }
+    for (why, name) in WHYS {
+        assert!(trees.refused(why) > 20, "{name}: {coverage}");
+    }
+    for (place, name) in PLACES {
+        assert!(trees.with_route(place) > 20, "{name}: {coverage}");
+    }
+    for (met, name) in MET {
+        assert!(trees.meeting(met) > 20, "{name}: {coverage}");
+    }
+    for (room, name) in ROOMS {
+        let least = trees.with_room(room).into_iter().min();
+        assert!(least > Some(30), "{name}: {coverage}");
+    }
+    for depth in 0..=UNIFORM {
+        assert!(trees.as_by_depth(depth) > 30, "{depth}: {coverage}");
+    }
+    assert_eq!(trees.different, 0, "{coverage}");
 }
 
 /// Each fault alone too: then nothing else in the words refuses them.

@@ -9,6 +9,7 @@ mod refusals;
 mod script;
 mod snapshot;
 mod table;
+mod tree;
 mod words;
 
 // The ledger itself, from the build's folder. What the paper leaves out of it is dead here.
@@ -29,8 +30,8 @@ pub use faults::{FAULTS, Fault};
 pub use original::ledger;
 pub use refusals::{
     ABSENCES, CORE, COUNTS, DEEPEST, DEPARTURES, DESTINATIONS, EDGES, ENTRIES, GROUPS, ITEMS,
-    LAST_SHARD, LAST_TIME, LONGEST_SPAN, ROUTES,
+    LAST_SHARD, LAST_TIME, LONGEST_SPAN, LOWEST_LEAF, ROUTES, TREE_MARKS,
 };
 pub use script::{FILLER, MOST_LENT, MOST_NUMBERS, Reply, Runner, run};
 pub use snapshot::{BREAKS, Broken, Entry, Snapshot};
-pub use table::{CALLS, Call, Given, call_named};
+pub use table::{CALLS, Call, Given, Numbers, call_named};

@@ -1,7 +1,7 @@
 //! The readings: lists and lookups, and the dump of everything held.
 
 use hyperscale_types::{
-    Deadline, Inclusion, ShardId, ShardTrie, SubstateKey, TxHash, WeightedTimestamp,
+    Deadline, Inclusion, RoutePrefix, ShardId, ShardTrie, SubstateKey, TxHash, WeightedTimestamp,
 };
 use hyperscale_vm_effects::CrossingId;
 
@@ -9,6 +9,7 @@ use crate::book::{Book, write};
 use crate::ledger::{Ledger, Question, inside};
 use crate::refusals::{DEEPEST, at_most, shards, times};
 use crate::table::Given;
+use crate::tree;
 
 type Answered = Result<(), u64>;
 
@@ -83,11 +84,28 @@ pub fn claimants(book: &mut Book, given: Given) -> Answered {
 
 pub fn counterparts(book: &mut Book, given: Given) -> Answered {
     at_most(given.numbers[1], DEEPEST)?;
-    let trie = ShardTrie(given.numbers[1] as u32);
-    list_shards(
-        book.ledger.counterparts(TxHash(given.numbers[0]), &trie),
-        given,
-    )
+    let trie = ShardTrie::Uniform(given.numbers[1] as u32);
+    list_counterparts(book, &trie, given)
+}
+
+pub fn counterparts_by_tree(book: &mut Book, given: Given) -> Answered {
+    let trie = ShardTrie::of_leaves(tree::leaves(&given.numbers[1..])?);
+    list_counterparts(book, &trie, given)
+}
+
+fn list_counterparts(book: &Book, trie: &ShardTrie, given: Given) -> Answered {
+    let shards = book.ledger.counterparts(TxHash(given.numbers[0]), trie);
+    list_shards(shards, given)
+}
+
+pub fn leaf_for_route(_: &mut Book, given: Given) -> Answered {
+    let trie = ShardTrie::of_leaves(tree::leaves(&given.numbers[1..])?);
+    let leaf = trie.shard_for_route(RoutePrefix(given.numbers[0]));
+    given.say(leaf.0)
+}
+
+pub fn leaves(_: &mut Book, given: Given) -> Answered {
+    list_shards(tree::leaves(given.numbers)?, given)
 }
 
 pub fn unstamped_departures(book: &mut Book, given: Given) -> Answered {

@@ -14,6 +14,8 @@ pub const BAD_BUNDLE: u64 = 11;
 pub const BAD_FORM: u64 = 12;
 pub const NEVER_WRITTEN: u64 = 13;
 pub const COUNTS_FULL: u64 = 14;
+pub const NO_TREE: u64 = 15;
+pub const TREE_OVER: u64 = 16;
 
 pub const LAST_TIME: u64 = (1 << 48) - 1;
 pub const LAST_SHARD: u64 = (1 << 33) - 1;
@@ -31,6 +33,9 @@ pub const DESTINATIONS: u64 = 4;
 /// Groups of a record, and lines and deciding transactions of a finalization.
 pub const GROUPS: u64 = 48;
 pub const DEEPEST: u64 = 32;
+/// Marks of a tree, and how deep a leaf of it may lie.
+pub const TREE_MARKS: usize = 63;
+pub const LOWEST_LEAF: u32 = 16;
 /// Items of a bundle.
 pub const ITEMS: u64 = 64;
 

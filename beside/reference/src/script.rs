@@ -111,10 +111,7 @@ impl Runner {
         }
         let call = call_named(name)?;
         let lent = self.parse_numbers(tokens)?;
-        let fits = match call.numbers {
-            Some(count) => self.numbers.len() == count,
-            None => self.numbers.len() <= MOST_NUMBERS,
-        };
+        let fits = call.numbers.fit(self.numbers.len());
         // A list lent to a call that takes none is left lying.
         let lent = if call.item == 0 { 0 } else { lent };
         fits.then_some(Line::Call(call, lent))

@@ -1,7 +1,10 @@
 //! The table of calls: name, how many numbers, words of a list item, and what runs.
 
 use crate::book::Book;
+use crate::script::MOST_NUMBERS;
 use crate::{bundle, changing, readings};
+
+use Numbers::{Behind, Exactly};
 
 /// What a call is handed, and where it says its answers.
 pub struct Given<'a> {
@@ -19,17 +22,42 @@ impl Given<'_> {
 
 pub(crate) type Body = fn(&mut Book, Given) -> Result<(), u64>;
 
+/// How many numbers a call has.
+#[derive(Clone, Copy)]
+pub enum Numbers {
+    Exactly(usize),
+    /// Words of any count, behind as many numbers of their own.
+    Behind(usize),
+}
+
+impl Numbers {
+    /// No line without as many is the call's.
+    pub fn least(self) -> usize {
+        match self {
+            Self::Exactly(count) | Self::Behind(count) => count,
+        }
+    }
+
+    pub fn any_count(self) -> bool {
+        matches!(self, Self::Behind(_))
+    }
+
+    pub(crate) fn fit(self, count: usize) -> bool {
+        count == self.least()
+            || (self.any_count() && (self.least()..=MOST_NUMBERS).contains(&count))
+    }
+}
+
 pub struct Call {
     pub name: &'static str,
-    /// None where any count of numbers is read.
-    pub numbers: Option<usize>,
+    pub numbers: Numbers,
     /// Words of one item for a call that takes a list, else 0.
     pub item: usize,
     body: Body,
 }
 
 impl Call {
-    const fn of(name: &'static str, numbers: Option<usize>, item: usize, body: Body) -> Self {
+    const fn of(name: &'static str, numbers: Numbers, item: usize, body: Body) -> Self {
         Self {
             name,
             numbers,
@@ -45,53 +73,76 @@ impl Call {
     }
 }
 
-pub static CALLS: [Call; 36] = [
-    Call::of("new", Some(4), 0, changing::new),
-    Call::of("restore", None, 0, changing::restore),
-    Call::of("register_committed", None, 0, changing::register_committed),
-    Call::of("record_absence", Some(3), 0, changing::record_absence),
-    Call::of("certify", Some(2), 0, changing::certify),
-    Call::of("record_abandonment", None, 0, changing::record_abandonment),
-    Call::of("settled", Some(2), 0, changing::settled),
-    Call::of("returned", Some(2), 0, changing::returned),
-    Call::of("closes", Some(0), 2, changing::closes),
-    Call::of("fated", Some(1), 0, changing::fated),
-    Call::of("release_resolved", None, 0, changing::release_resolved),
-    Call::of("forget", Some(1), 0, changing::forget),
-    Call::of("record_terminal", Some(4), 0, changing::record_terminal),
-    Call::of("stamp_terminal", Some(2), 0, changing::stamp_terminal),
-    Call::of("prune", Some(1), 3, changing::prune),
-    Call::of("bundle", None, 0, bundle::bundle),
-    Call::of("questions", Some(0), 5, readings::questions),
-    Call::of("open_at", Some(6), 0, readings::open_at),
-    Call::of("answers", Some(7), 0, readings::answers),
-    Call::of("past_deadline", Some(1), 5, readings::past_deadline),
-    Call::of("issuers_of", Some(1), 2, readings::issuers_of),
-    Call::of("claimants", Some(2), 1, readings::claimants),
-    Call::of("counterparts", Some(2), 1, readings::counterparts),
+pub static CALLS: [Call; 39] = [
+    Call::of("new", Exactly(4), 0, changing::new),
+    Call::of("restore", Behind(0), 0, changing::restore),
+    Call::of(
+        "register_committed",
+        Behind(0),
+        0,
+        changing::register_committed,
+    ),
+    Call::of("record_absence", Exactly(3), 0, changing::record_absence),
+    Call::of("certify", Exactly(2), 0, changing::certify),
+    Call::of(
+        "record_abandonment",
+        Behind(0),
+        0,
+        changing::record_abandonment,
+    ),
+    Call::of("settled", Exactly(2), 0, changing::settled),
+    Call::of("returned", Exactly(2), 0, changing::returned),
+    Call::of("closes", Exactly(0), 2, changing::closes),
+    Call::of("fated", Exactly(1), 0, changing::fated),
+    Call::of("release_resolved", Behind(0), 0, changing::release_resolved),
+    Call::of("forget", Exactly(1), 0, changing::forget),
+    Call::of("record_terminal", Exactly(4), 0, changing::record_terminal),
+    Call::of("stamp_terminal", Exactly(2), 0, changing::stamp_terminal),
+    Call::of("prune", Exactly(1), 3, changing::prune),
+    Call::of("bundle", Behind(0), 0, bundle::bundle),
+    Call::of("questions", Exactly(0), 5, readings::questions),
+    Call::of("open_at", Exactly(6), 0, readings::open_at),
+    Call::of("answers", Exactly(7), 0, readings::answers),
+    Call::of("past_deadline", Exactly(1), 5, readings::past_deadline),
+    Call::of("issuers_of", Exactly(1), 2, readings::issuers_of),
+    Call::of("claimants", Exactly(2), 1, readings::claimants),
+    Call::of("counterparts", Exactly(2), 1, readings::counterparts),
     Call::of(
         "unstamped_departures",
-        Some(0),
+        Exactly(0),
         1,
         readings::unstamped_departures,
     ),
-    Call::of("reach", Some(1), 1, readings::reach),
+    Call::of("reach", Exactly(1), 1, readings::reach),
     Call::of(
         "abandonment_answers",
-        Some(1),
+        Exactly(1),
         0,
         readings::abandonment_answers,
     ),
-    Call::of("is_covered", Some(1), 0, readings::is_covered),
-    Call::of("departed", Some(1), 0, readings::departed),
-    Call::of("executed", Some(1), 0, readings::executed),
-    Call::of("reaches_beyond", Some(1), 0, readings::reaches_beyond),
-    Call::of("issued_by", Some(2), 0, readings::issued_by),
-    Call::of("local", Some(0), 0, readings::local),
-    Call::of("rebuilt", Some(0), 0, readings::rebuilt),
-    Call::of("rebuilt_by_shard", Some(0), 2, readings::rebuilt_by_shard),
-    Call::of("snapshot", Some(0), 1, readings::snapshot),
-    Call::of("dump", Some(0), 0, readings::dump),
+    Call::of("is_covered", Exactly(1), 0, readings::is_covered),
+    Call::of("departed", Exactly(1), 0, readings::departed),
+    Call::of("executed", Exactly(1), 0, readings::executed),
+    Call::of("reaches_beyond", Exactly(1), 0, readings::reaches_beyond),
+    Call::of("issued_by", Exactly(2), 0, readings::issued_by),
+    Call::of("local", Exactly(0), 0, readings::local),
+    Call::of("rebuilt", Exactly(0), 0, readings::rebuilt),
+    Call::of(
+        "rebuilt_by_shard",
+        Exactly(0),
+        2,
+        readings::rebuilt_by_shard,
+    ),
+    Call::of("leaf_for_route", Behind(1), 0, readings::leaf_for_route),
+    Call::of("leaves", Behind(0), 1, readings::leaves),
+    Call::of(
+        "counterparts_by_tree",
+        Behind(1),
+        1,
+        readings::counterparts_by_tree,
+    ),
+    Call::of("snapshot", Exactly(0), 1, readings::snapshot),
+    Call::of("dump", Exactly(0), 0, readings::dump),
 ];
 
 pub fn call_named(name: &[u8]) -> Option<&'static Call> {

@@ -1,7 +1,7 @@
 -- The readings by number: which reading a kind is, on which of its words, with a lent list of which length.
-use Rattle.std.specs.Prelude.{ℕ, cond, List, eqb}
-use Rattle.rules.specs.Words.{word}
-use Rattle.rules.specs.Readings.{Reading, ask_questions, open_at, answers, list_past_deadline, list_issuers, list_claimants, list_counterparts, list_unstamped, reach, abandonment, covered, departed, executed, reaches_beyond, issued_by, local, rebuilt, take_snapshot, rebuilt_by_shard}
+use Rattle.std.specs.Prelude.{ℕ, cond, List, eqb, drop}
+use Rattle.rules.specs.Words.{word, transaction_size}
+use Rattle.rules.specs.Readings.{Reading, ask_questions, open_at, answers, list_past_deadline, list_issuers, list_claimants, list_counterparts, list_unstamped, reach, abandonment, covered, departed, executed, reaches_beyond, issued_by, local, rebuilt, take_snapshot, rebuilt_by_shard, leaf_for_route, list_leaves, list_counterparts_by_tree}
 
 -- words that are missing count as 0
 abbrev pub question_open : List ℕ → Reading
@@ -22,9 +22,10 @@ lookup_of kind ws =
     (cond (eqb kind 14) (reaches_beyond (word 0 ws))
     (cond (eqb kind 15) (issued_by (word 0 ws) (word 1 ws))
     (cond (eqb kind 16) local
-    rebuilt))))))))
+    (cond (eqb kind 20) (leaf_for_route (word 0 ws) (drop 1 ws))
+    rebuilt)))))))))
 
--- the readings that take a list, the snapshot and the counts the last of them, and the lookups
+-- the readings that take a list, the snapshot, the counts and those of a tree the last of them, and the lookups
 unfoldable pub reading_of : ℕ → List ℕ → ℕ → Reading
 reading_of kind ws room =
     cond (eqb kind 1) (ask_questions room)
@@ -36,4 +37,6 @@ reading_of kind ws room =
     (cond (eqb kind 9) (reach (word 0 ws) room)
     (cond (eqb kind 18) (take_snapshot room)
     (cond (eqb kind 19) (rebuilt_by_shard room)
-    (lookup_of kind ws)))))))))
+    (cond (eqb kind 21) (list_leaves ws room)
+    (cond (eqb kind 22) (list_counterparts_by_tree (word 0 ws) (drop transaction_size ws) room)
+    (lookup_of kind ws)))))))))))

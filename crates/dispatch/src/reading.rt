@@ -9,10 +9,13 @@ ghost use Rattle.dispatch.specs.Reading.{reading_of, lookup_of, question_open, q
 
 use entry_lists::{issuers_of, past_deadline, questions};
 use ledger::Ledger;
-use lists::slices::word_at;
+use lists::slices::{word_at, words_behind};
 use readings::lookups;
 use readings::lookups::Question;
-use shard_lists::{claimants, counterparts, reach, rebuilt_by_shard, unstamped_departures};
+use shard_lists::{
+    claimants, counterparts, counterparts_by_tree, leaves, reach, rebuilt_by_shard,
+    unstamped_departures,
+};
 use snapshots::write::snapshot;
 use types::refusal::Refusal;
 use types::{RecordKey, Shard, Time, Transaction};
@@ -37,6 +40,8 @@ pub fn ask(ledger: &Ledger, kind: u64, words: &[u64], lent: &mut [u64]) -> Resul
         9 => reach(ledger, tx, lent),
         18 => snapshot(ledger, lent),
         19 => rebuilt_by_shard(ledger, lent),
+        21 => leaves(ledger, words, lent),
+        22 => counterparts_by_tree(ledger, tx, Transaction::behind(words), lent),
         _ => look_up(ledger, kind, words),
     }
 }
@@ -61,6 +66,7 @@ fn look_up(ledger: &Ledger, kind: u64, words: &[u64]) -> Result<u64, Refusal>
         14 => lookups::reaches_beyond(ledger, tx),
         15 => lookups::issued_by(ledger, RecordKey(a), second),
         16 => lookups::local(ledger),
+        20 => lookups::leaf_for_route(ledger, a, words_behind(words, 1)),
         _ => lookups::rebuilt(ledger),
     }
 }

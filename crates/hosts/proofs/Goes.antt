@@ -10,9 +10,9 @@ use Rattle.rules.specs.Plain.{Plain}
 use Rattle.rules.specs.Good.{Good}
 use Rattle.rules.specs.Snapshot.{snapshot_words}
 use Rattle.types.specs.declared.refusal.Refusal.{Refusal}
-use Rattle.types.specs.declared.refusal.Refusal.TheVariants.{NoLocal, NoSpan, NoTime, NoShard, Malformed, EntriesFull, AbsencesFull, DeparturesFull, ListShort, UnknownKind, NoBundle, NoSnapshot, NeverWritten, CountsFull}
 use Rattle.types.specs.Refusals.{refusal_number}
 use Rattle.ledger.specs.Meets.{written}
+use Rattle.ledger.proofs.Meeting.{numbered}
 use Rattle.word_bytes.specs.Bytes.{bytes_of}
 use Rattle.word_bytes.proofs.Bytes.{length_bytes}
 use Rattle.hosts.proofs.Comes.{comes_again}
@@ -20,20 +20,7 @@ use Rattle.hosts.specs.Hosts.{Given, giving, restoring_bytes, ledger_bytes, hand
 
 -- a refusal has a number above 0
 pub is_refused : (r : Refusal) → 1 ≤ refusal_number r
-is_refused NoLocal = omega arith
-is_refused NoSpan = omega arith
-is_refused NoTime = omega arith
-is_refused NoShard = omega arith
-is_refused Malformed = omega arith
-is_refused EntriesFull = omega arith
-is_refused AbsencesFull = omega arith
-is_refused DeparturesFull = omega arith
-is_refused ListShort = omega arith
-is_refused UnknownKind = omega arith
-is_refused NoBundle = omega arith
-is_refused NoSnapshot = omega arith
-is_refused NeverWritten = omega arith
-is_refused CountsFull = omega arith
+is_refused r = omega (arith, (numbered r).1)
 
 -- its number alone
 pub turned_down : (n r : ℕ) (p : Plain) (told : List ℕ) (a b : ℕ) (out reports : List ℕ) → 1 ≤ n → r ≡ n → Gives (handing n p told a b) out out reports reports r

@@ -10,7 +10,7 @@ use Rattle.rules.specs.Good.{Good}
 use Rattle.rules.specs.Outcome.{Outcome, done, unless, ◌gives◌then◌}
 use Rattle.std.specs.Prelude.{Ok}
 use Rattle.types.specs.declared.refusal.Refusal.{Refusal}
-use Rattle.types.specs.declared.refusal.Refusal.TheVariants.{NoLocal, NoSpan, NoTime, NoShard, Malformed, EntriesFull, AbsencesFull, DeparturesFull, ListShort, UnknownKind, NoBundle, NoSnapshot, NeverWritten, CountsFull}
+use Rattle.types.specs.declared.refusal.Refusal.TheVariants.{NoLocal, NoSpan, NoTime, NoShard, Malformed, EntriesFull, AbsencesFull, DeparturesFull, ListShort, UnknownKind, NoBundle, NoSnapshot, NeverWritten, CountsFull, NoTree, TreeTooLarge}
 use Rattle.types.specs.Refusals.{refusal_number}
 use Rattle.ledger.specs.declared.Ledger.{Ledger}
 use Rattle.ledger.specs.declared.Done.{Done}
@@ -33,6 +33,8 @@ numbered NoBundle = (10, refl)
 numbered NoSnapshot = (11, refl)
 numbered NeverWritten = (12, refl)
 numbered CountsFull = (13, refl)
+numbered NoTree = (14, refl)
+numbered TreeTooLarge = (15, refl)
 
 -- the table gives a refusal: it is said, and nothing else is done
 pub refuses : (r : Refusal) (l : Ledger) (lent : List ℕ) (m : ℕ) (o : Outcome) → Held l → m ≡ refusal_number r → Meets (unless m (contents l) o) lent lent (says_no r l)

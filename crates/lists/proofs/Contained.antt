@@ -1,14 +1,14 @@
 -- What a list contains: as a derivation, after keeping, and by a key that rises.
 -- Assumes nothing.
 use Prim.Native.Nat.{ℕ, zero, suc, ◌<◌}
-use mathlib.Core.Path.{◌≡◌, refl, sym, ap, ◌∙◌}
+use mathlib.Core.Path.{◌≡◌, refl, sym, ap, subst, ◌∙◌}
 use mathlib.Core.Bool.{Bool, true, false}
-use mathlib.Core.List.{List, [], ◌∷◌, Memᴰ}
-use mathlib.Core.Logic.{◌↔◌, ◌⊎◌, inl, inr}
+use mathlib.Core.List.{List, [], ◌∷◌, ◌++◌, Memᴰ}
+use mathlib.Core.Logic.{◌↔◌, ◌⊎◌, inl, inr, ⊎_elim}
 use native.Mathlib.Omega.{arith}
 use lib.ListN.{length, get_or}
 use Rattle.std.specs.Prelude.{Contains}
-use Rattle.lists.specs.Lists.{cons_if, keep, Ascending}
+use Rattle.lists.specs.Lists.{cons_if, keep, Every, Ascending}
 use Rattle.lists.proofs.Parted.{kept_member}
 use Rattle.lists.proofs.Order.{above_member}
 
@@ -68,3 +68,28 @@ module _ {A : Type 0} where
       go (z ∷ l) a (Memᴰ.tail m) (Memᴰ.head q) h = absurd (omega (arith, above_member key (key z) l a.0 m, ap key q, h))
       go (z ∷ l) a (Memᴰ.tail m) (Memᴰ.tail n) h = go l a.1 m n h
       go [] a x2 n h = elim x2 [ ]
+
+  -- two lists joined contain what either does
+  pub contains_left : (a b : List A) {x : A} → Contains a x → Contains (a ++ b) x
+  contains_left a b {x} c = of_member (a ++ b) (go a (member_of a c))
+    where
+      go : (a : List A) → Memᴰ x a → Memᴰ x (a ++ b)
+      go (y ∷ l) (Memᴰ.head e) = Memᴰ.head e
+      go (y ∷ l) (Memᴰ.tail m) = Memᴰ.tail (go l m)
+      go [] m = elim m [ ]
+
+  pub contains_right : (a b : List A) {x : A} → Contains b x → Contains (a ++ b) x
+  contains_right [] b c = c
+  contains_right (y ∷ a) b c = contains_more y (a ++ b) (contains_right a b c)
+
+  pub contains_either : (a b : List A) {x : A} → Contains (a ++ b) x → Contains a x ⊎ Contains b x
+  contains_either [] b c = inr c
+  contains_either (y ∷ a) b {x} c =
+      ⊎_elim (λ e. inl (subst (λ z. Contains (y ∷ a) z) e (contains_first y a)))
+      (λ m. ⊎_elim (λ k. inl (contains_more y a k)) (λ k. inr k) (contains_either a b m))
+      (contains_tail y (a ++ b) c)
+
+  -- what each that it contains has, each of a list has
+  pub each_has : (P : A → Type 0) (l : List A) → ((x : A) → Contains l x → P x) → Every P l
+  each_has P [] h = tt
+  each_has P (y ∷ l) h = (h y (contains_first y l), each_has P l (λ x c. h x (contains_more y l c)))

@@ -1,6 +1,6 @@
 // Slices of words: a word, a part, tests of each number, sums and copies. Most are one call of the library's, with the rules' own word for it
 // in the contract.
-ghost use Rattle.std.specs.Prelude.{◌≡◌, true, ◌+◌, ◌≤◌, eqb, leb, length, take, get_or};
+ghost use Rattle.std.specs.Prelude.{◌≡◌, true, ◌+◌, ◌≤◌, eqb, leb, length, take, drop, get_or};
 ghost use Rattle.lists.specs.Lists.{all, has, ascending, total, self, part, cut};
 
 // The word at a place, 0 past the end.
@@ -21,6 +21,13 @@ pub fn part(s: &[u64], from: usize, n: usize) -> &[u64]
     ensures { result.now ≡ part from n s.now }
 {
     &s[from..][..n]
+}
+
+// The words from a place on, none where there are not so many.
+pub fn words_behind(s: &[u64], from: usize) -> &[u64]
+    ensures { result.now ≡ drop from s.now }
+{
+    s.get(from..).unwrap_or(&[])
 }
 
 pub fn all_within(s: &[u64], limit: u64) -> bool

@@ -2,7 +2,7 @@
 ghost use Rattle.std.specs.Prelude.{◌≡◌, ◌&&◌, [], eqb, ltb, leb, ◌+◌};
 ghost use Rattle.std.specs.Fn.{FnReturnsAt};
 ghost use Rattle.rules.specs.Numbers.{is_time};
-ghost use Rattle.rules.specs.Readings.{read, open_at, answers, abandonment_answers, abandonment, covered, departed, executed, reaches_beyond, issued_by, local, rebuilt, question, question_refusal};
+ghost use Rattle.rules.specs.Readings.{read, open_at, answers, abandonment_answers, abandonment, covered, departed, executed, reaches_beyond, issued_by, local, rebuilt, leaf_for_route, question, question_refusal};
 ghost use Rattle.entry.specs.Entry.{plain_entry};
 ghost use Rattle.ledger.specs.Contents.{contents, Held};
 ghost use Rattle.readings.specs.Reads.{Reads, LooksUp};
@@ -11,6 +11,7 @@ ghost use Rattle.types.specs.Transactions.{number_of};
 
 use entry::{Certificate, Entry};
 use ledger::Ledger;
+use trees::Halves;
 use types::refusal::Refusal;
 use types::{RecordKey, Shard, Time, Transaction, is_shard};
 
@@ -164,4 +165,14 @@ pub fn answers(ledger: &Ledger, q: Question, read_at: Time, inclusion: u64) -> R
         return Ok(0);
     };
     Ok(1)
+}
+
+// The leaf of a route in the tree of these marks. It asks nothing of the ledger.
+pub fn leaf_for_route(ledger: &Ledger, route: u64, marks: &[u64]) -> Result<u64, Refusal>
+    requires { Held ledger.now }
+    ensures { Reads (read (leaf_for_route route marks.now) (contents ledger.now)) [] [] result }
+{
+    let mut tree = Halves::new();
+    tree.read(marks)?;
+    Ok(tree.leaf_of(marks, route).0)
 }

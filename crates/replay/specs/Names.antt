@@ -18,9 +18,10 @@ abbrev pub changing_names : List (List ℕ)
 changing_names = take 14 (drop 3 names)
 
 -- questions, open_at, answers, past_deadline, issuers_of, claimants, counterparts, unstamped_departures, reach, abandonment_answers, is_covered,
--- departed, executed, reaches_beyond, issued_by, local, rebuilt, snapshot, rebuilt_by_shard: those before `dump`
+-- departed, executed, reaches_beyond, issued_by, local, rebuilt, snapshot, rebuilt_by_shard, leaf_for_route, leaves, counterparts_by_tree: those before
+-- `dump`
 abbrev pub reading_names : List (List ℕ)
-reading_names = take 19 (drop 17 names)
+reading_names = take 22 (drop 17 names)
 
 -- what each name makes of a line's numbers and the length of its list
 pub record Named (ws : List ℕ) (room : ℕ) : Type 0 where
@@ -67,4 +68,7 @@ pub record Named (ws : List ℕ) (room : ℕ) : Type 0 where
       ∷ readings.rebuilt
       ∷ readings.take_snapshot room
       ∷ readings.rebuilt_by_shard room
+      ∷ readings.leaf_for_route (word 0 ws) (drop 1 ws)
+      ∷ readings.list_leaves ws room
+      ∷ readings.list_counterparts_by_tree (word 0 ws) (drop 1 ws) room
       ∷ [])

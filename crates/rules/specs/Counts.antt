@@ -1,6 +1,6 @@
 -- Paper 5 on closed examples, both sides of each edge: which counts stand after abandonment records, their sum, and 14. Local 4, V 100, C 50,
 -- L 200.
-use Rattle.std.specs.Prelude.{ℕ, zero, suc, ◌-◌, ◌^◌, ◌≡◌, refl, List, [], ◌∷◌, ◌++◌, map, length, replicate}
+use Rattle.std.specs.Prelude.{ℕ, ◌-◌, ◌^◌, ◌≡◌, refl, List, [], ◌∷◌, ◌++◌, map, length, replicate}
 use Rattle.lists.specs.Lists.{concat_map}
 use Rattle.rules.specs.Numbers.{max_count}
 use Rattle.rules.specs.Plain.{Plain, empty, with_counts}
@@ -8,7 +8,7 @@ use Rattle.rules.specs.Words.{record_groups, record_formed, record_timed, bundle
 use Rattle.rules.specs.Outcome.{said}
 use Rattle.rules.specs.Calls.{Call, abandonment, forget, bundle, step, run, after_abandonment, after_forget, after_bundle}
 use Rattle.rules.specs.Readings.{rebuilt, rebuilt_by_shard, read}
-use Rattle.rules.specs.Instances.{Row}
+use Rattle.rules.specs.Instances.{Row, first}
 
 -- a shard's record that names these transactions
 abbrev words_of : ℕ → List ℕ → List ℕ
@@ -16,11 +16,6 @@ words_of shard ts = length ts ∷ shard ∷ replicate (length ts) 0 ++ concat_ma
 
 abbrev named : ℕ → List ℕ → Call
 named shard ts = abandonment (words_of shard ts)
-
--- 1 to n
-abbrev first : ℕ → List ℕ
-first zero = []
-first (suc n) = first n ++ (suc n ∷ [])
 
 abbrev fresh : Plain
 fresh = empty 4 100 50 200

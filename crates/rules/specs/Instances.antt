@@ -3,7 +3,7 @@
 use Rattle.std.specs.Prelude.{ℕ, ◌+◌, ◌-◌, ◌^◌, ◌≡◌, refl, List, [], ◌∷◌, ◌++◌, map}
 use Prim.Native.String.{String}
 use Rattle.lists.specs.Lists.{concat_map}
-use Rattle.rules.specs.Numbers.{depth, owns}
+use Rattle.rules.specs.Numbers.{depth, owns, count_from}
 use Rattle.rules.specs.Plain.{Plain}
 use Rattle.rules.specs.Words.{admission_terms, admission_formed, admission_timed, admission_placed, record_groups, record_formed, record_timed, finalization_lines, deciding, finalization_formed}
 use Rattle.rules.specs.Index.{index}
@@ -18,6 +18,10 @@ pub record Row : Type 0 where
   pub name : String
   pub given : List ℕ
   pub stated : List ℕ
+
+-- 1 to n
+abbrev pub first : ℕ → List ℕ
+first n = count_from 1 n
 
 -- what a call or a reading says after a list of calls on the fresh ledger
 abbrev after : List Call → Plain

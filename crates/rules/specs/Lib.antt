@@ -8,7 +8,9 @@ pub mod Prune
 pub mod Outcome
 pub mod Entries
 pub mod Calls
+pub mod Tree
 pub mod Readings
+pub mod Uniform
 pub mod Good
 pub mod Snapshot
 pub mod Reached
@@ -20,3 +22,4 @@ pub mod Instances
 pub mod Choices
 pub mod Counts
 pub mod Snapshots
+pub mod Trees

@@ -1,5 +1,5 @@
 -- Paper, 'Kept, left, written anew': the stand-ins. Words, times, shards, spans; ownership of a route; record and cell keys.
-use Rattle.std.specs.Prelude.{ℕ, zero, suc, ◌+◌, ◌-◌, ◌/◌, ◌%◌, ◌^◌, Bool, cond, ◌&&◌, eqb, ltb, leb}
+use Rattle.std.specs.Prelude.{ℕ, zero, suc, ◌+◌, ◌-◌, ◌/◌, ◌%◌, ◌^◌, Bool, cond, ◌&&◌, List, [], ◌∷◌, eqb, ltb, leb}
 
 -- a word is an unsigned 64-bit number
 abbrev pub is_word : ℕ → Bool
@@ -46,6 +46,11 @@ record_key id = id % 2 ^ 32
 -- the cell key of a transaction on a shard
 abbrev pub cell_key : ℕ → ℕ → ℕ → ℕ
 cell_key transaction end shard = (transaction + end + shard) % 2 ^ 64
+
+-- n numbers, the first of them and each next one above the one before
+abbrev pub count_from : (first n : ℕ) → List ℕ
+count_from first zero = []
+count_from first (suc n) = first ∷ count_from (suc first) n
 
 -- limits
 abbrev pub max_entries : ℕ

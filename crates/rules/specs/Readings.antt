@@ -8,6 +8,7 @@ use Rattle.rules.specs.Words.{transaction_words}
 use Rattle.rules.specs.Index.{index, names}
 use Rattle.rules.specs.Over.{over}
 use Rattle.rules.specs.Prune.{validity_horizon}
+use Rattle.rules.specs.Tree.{tree_refusal, tree_of, leaves, leaf_of}
 use Rattle.rules.specs.Snapshot.{count_words, snapshot_words}
 use Rattle.rules.specs.Outcome.{Outcome, done, unless, ◌gives◌then◌, too_short, yes_no}
 
@@ -108,14 +109,14 @@ claimants_of local r e =
 unfoldable pub claimants : ℕ → ℕ → Plain → List ℕ
 claimants t r p = list_of (claimants_of p.local r) (entry_of t p)
 
--- Counterparts: for each remote route the trie's shard and every shard with a departure over it.
-abbrev pub counterparts_of : Plain → ℕ → Entry → List ℕ
-counterparts_of p d e =
+-- Counterparts: for each remote route the trie's shard and every shard with a departure over it. The trie is of a uniform depth or a tree.
+abbrev pub counterparts_of : (shard_for : ℕ → ℕ) → Plain → Entry → List ℕ
+counterparts_of shard_for p e =
     set_of
-    (concat_map (λ (r : ℕ). shard_for_route d r ∷ map shard_of (keep (over e r) p.departures)) (remote p.local e.terms))
+    (concat_map (λ (r : ℕ). shard_for r ∷ map shard_of (keep (over e r) p.departures)) (remote p.local e.terms))
 
-unfoldable pub counterparts : ℕ → ℕ → Plain → List ℕ
-counterparts t d p = list_of (counterparts_of p d) (entry_of t p)
+unfoldable pub counterparts : (shard_for : ℕ → ℕ) → ℕ → Plain → List ℕ
+counterparts shard_for t p = list_of (counterparts_of shard_for p) (entry_of t p)
 
 abbrev pub depth_refusal : ℕ → ℕ
 depth_refusal d = ltb max_depth d gives 5 then 0
@@ -165,6 +166,9 @@ pub data Reading : Type 0 where
   local rebuilt : Reading
   take_snapshot : (room : ℕ) → Reading
   rebuilt_by_shard : (room : ℕ) → Reading
+  leaf_for_route : (route : ℕ) (marks : List ℕ) → Reading
+  list_leaves : (marks : List ℕ) (room : ℕ) → Reading
+  list_counterparts_by_tree : (transaction : ℕ) (marks : List ℕ) (room : ℕ) → Reading
 
 abbrev pub question : ℕ → ℕ → ℕ → ℕ → ℕ → Question
 question t shard key at end = record { transaction = t; shard = shard; key = key; at = at; end = end }
@@ -179,7 +183,7 @@ read (answers t shard key at end read_at inclusion) p =
 read (list_past_deadline now room) p = listing (clock_refusal now) room term_words (past_deadline now p) p
 read (list_issuers id room) p = listing 0 room issuer_words (issuers_of id p) p
 read (list_claimants t r room) p = listing 0 room single (claimants t r p) p
-read (list_counterparts t d room) p = listing (depth_refusal d) room single (counterparts t d p) p
+read (list_counterparts t d room) p = listing (depth_refusal d) room single (counterparts (shard_for_route d) t p) p
 read (list_unstamped room) p = listing 0 room single (unstamped_departures p) p
 read (reach t room) p = listing 0 room single (reach_of t p) p
 read (abandonment t) p = lookup abandonment_answers t p
@@ -192,3 +196,7 @@ read local p = done (p.local ∷ []) p
 read rebuilt p = done (rebuilt_in p.counts ∷ []) p
 read (take_snapshot room) p = listing 0 room single (snapshot_words p) p
 read (rebuilt_by_shard room) p = listing 0 room count_words p.counts p
+read (leaf_for_route route marks) p = unless (tree_refusal marks) p (done (leaf_of (tree_of marks) route ∷ []) p)
+read (list_leaves marks room) p = listing (tree_refusal marks) room single (leaves (tree_of marks)) p
+read (list_counterparts_by_tree t marks room) p =
+    listing (tree_refusal marks) room single (counterparts (leaf_of (tree_of marks)) t p) p

@@ -1,6 +1,6 @@
 -- Paper 3 on closed examples, both sides of each edge: the words of ledgers that calls reach, what the reader gives for words, and what it hands
 -- back. Local 4, V 100, C 50, L 200.
-use Rattle.std.specs.Prelude.{ℕ, zero, suc, ◌+◌, ◌-◌, ◌^◌, ◌≡◌, refl, List, [], ◌∷◌, ◌++◌, map, length, replicate}
+use Rattle.std.specs.Prelude.{ℕ, ◌+◌, ◌-◌, ◌^◌, ◌≡◌, refl, List, [], ◌∷◌, ◌++◌, map, length, replicate}
 use Rattle.lists.specs.Lists.{concat_map}
 use Rattle.rules.specs.Words.{admission_terms, admission_formed, admission_timed, admission_placed, record_groups, record_formed, record_timed, finalization_lines, deciding, finalization_formed}
 use Rattle.rules.specs.Entries.{admitted}
@@ -8,7 +8,7 @@ use Rattle.rules.specs.Outcome.{Outcome, said}
 use Rattle.rules.specs.Calls.{Call, admission, absence, certify, abandonment, settled, returned, closes, finalization, terminal, step, run, making, after_admission, after_absence, after_certify, after_abandonment, after_mark, after_closes, after_finalization, after_terminal}
 use Rattle.rules.specs.Snapshot.{entry_words, snapshot_words, entry_in, ledger_in, entry_formed, snapshot_formed, entry_sound, snapshot_sound, restoring}
 use Rattle.rules.specs.Widths.{snapshot_room}
-use Rattle.rules.specs.Instances.{Row}
+use Rattle.rules.specs.Instances.{Row, first}
 
 -- what is written after a list of calls; the numbers that the reader gives, list by list; what it hands back, written again behind its number
 abbrev written : List Call → List ℕ
@@ -22,11 +22,6 @@ back o = o.refused ∷ snapshot_words o.ledger
 
 abbrev read_back : List ℕ → List ℕ
 read_back ws = back (restoring ws)
-
--- 1 to n
-abbrev first : ℕ → List ℕ
-first zero = []
-first (suc n) = first n ++ (suc n ∷ [])
 
 -- entries and departures put down, as they stand behind the counts; counts, entries and departures as a snapshot; one of each alone
 abbrev listed : List (List ℕ) → List (List ℕ) → List ℕ

@@ -2,7 +2,7 @@
 ghost use Rattle.std.specs.Prelude.{◌≡◌, ◌<◌, None, IfSome, map, get_or, position};
 ghost use Rattle.std.specs.Option.{option_map};
 ghost use Rattle.script.specs.Texts.{same_text};
-ghost use Rattle.script.specs.Calls.{codes, count_of, takes_list, code_of};
+ghost use Rattle.script.specs.Calls.{codes, count_of, takes_list, code_of, any_count};
 
 // Places of calls that are asked for by name. They stay numbers, since dispatch numbers its kinds in the table's order.
 pub const REPEAT: usize = 0;
@@ -25,7 +25,7 @@ pub const PRUNE: usize = 15;
 
 pub const BUNDLE: usize = 16;
 
-pub const DUMP: usize = 36;
+pub const DUMP: usize = 39;
 
 // A call's place in the table.
 #[derive(Clone, Copy)]
@@ -34,56 +34,68 @@ pub struct Code {
     pub ghost known: { place < codes },
 }
 
-// A name; how many numbers the call takes, where not any count will do; how many words an item of its list has, where it takes one.
+// How many numbers a call takes: just so many, or so many and any behind them.
 #[derive(Clone, Copy)]
-struct Row(&'static [u8], Option<usize>, Option<usize>);
+pub enum Count {
+    Just(usize),
+    From(usize),
+}
+
+use Count::{From, Just};
+
+// A name; how many numbers the call takes; how many words an item of its list has, where it takes one.
+#[derive(Clone, Copy)]
+struct Row(&'static [u8], Count, Option<usize>);
 
 // How many calls there are.
-const CODES: usize = 37;
+const CODES: usize = 40;
 
 const ROWS: [Row; CODES] = [
-    Row(b"repeat", Some(1), None),
-    Row(b"new", Some(4), None),
-    Row(b"restore", None, None),
-    Row(b"register_committed", None, None),
-    Row(b"record_absence", Some(3), None),
-    Row(b"certify", Some(2), None),
-    Row(b"record_abandonment", None, None),
-    Row(b"settled", Some(2), None),
-    Row(b"returned", Some(2), None),
-    Row(b"closes", Some(0), Some(2)),
-    Row(b"fated", Some(1), None),
-    Row(b"release_resolved", None, None),
-    Row(b"forget", Some(1), None),
-    Row(b"record_terminal", Some(4), None),
-    Row(b"stamp_terminal", Some(2), None),
-    Row(b"prune", Some(1), Some(3)),
-    Row(b"bundle", None, None),
-    Row(b"questions", Some(0), Some(5)),
-    Row(b"open_at", Some(6), None),
-    Row(b"answers", Some(7), None),
-    Row(b"past_deadline", Some(1), Some(5)),
-    Row(b"issuers_of", Some(1), Some(2)),
-    Row(b"claimants", Some(2), Some(1)),
-    Row(b"counterparts", Some(2), Some(1)),
-    Row(b"unstamped_departures", Some(0), Some(1)),
-    Row(b"reach", Some(1), Some(1)),
-    Row(b"abandonment_answers", Some(1), None),
-    Row(b"is_covered", Some(1), None),
-    Row(b"departed", Some(1), None),
-    Row(b"executed", Some(1), None),
-    Row(b"reaches_beyond", Some(1), None),
-    Row(b"issued_by", Some(2), None),
-    Row(b"local", Some(0), None),
-    Row(b"rebuilt", Some(0), None),
-    Row(b"snapshot", Some(0), Some(1)),
-    Row(b"rebuilt_by_shard", Some(0), Some(2)),
-    Row(b"dump", Some(0), None),
+    Row(b"repeat", Just(1), None),
+    Row(b"new", Just(4), None),
+    Row(b"restore", From(0), None),
+    Row(b"register_committed", From(0), None),
+    Row(b"record_absence", Just(3), None),
+    Row(b"certify", Just(2), None),
+    Row(b"record_abandonment", From(0), None),
+    Row(b"settled", Just(2), None),
+    Row(b"returned", Just(2), None),
+    Row(b"closes", Just(0), Some(2)),
+    Row(b"fated", Just(1), None),
+    Row(b"release_resolved", From(0), None),
+    Row(b"forget", Just(1), None),
+    Row(b"record_terminal", Just(4), None),
+    Row(b"stamp_terminal", Just(2), None),
+    Row(b"prune", Just(1), Some(3)),
+    Row(b"bundle", From(0), None),
+    Row(b"questions", Just(0), Some(5)),
+    Row(b"open_at", Just(6), None),
+    Row(b"answers", Just(7), None),
+    Row(b"past_deadline", Just(1), Some(5)),
+    Row(b"issuers_of", Just(1), Some(2)),
+    Row(b"claimants", Just(2), Some(1)),
+    Row(b"counterparts", Just(2), Some(1)),
+    Row(b"unstamped_departures", Just(0), Some(1)),
+    Row(b"reach", Just(1), Some(1)),
+    Row(b"abandonment_answers", Just(1), None),
+    Row(b"is_covered", Just(1), None),
+    Row(b"departed", Just(1), None),
+    Row(b"executed", Just(1), None),
+    Row(b"reaches_beyond", Just(1), None),
+    Row(b"issued_by", Just(2), None),
+    Row(b"local", Just(0), None),
+    Row(b"rebuilt", Just(0), None),
+    Row(b"snapshot", Just(0), Some(1)),
+    Row(b"rebuilt_by_shard", Just(0), Some(2)),
+    Row(b"leaf_for_route", From(1), None),
+    Row(b"leaves", From(0), Some(1)),
+    Row(b"counterparts_by_tree", From(1), Some(1)),
+    Row(b"dump", Just(0), None),
 ];
 
-// How many numbers a call takes, where not any count will do.
+// How many numbers a call takes.
 #[tactic(auto, unfolding(crate::specs::Calls::count_of))]
-pub fn count_of(code: Code) -> Option<usize>
+pub fn count_of(code: Code) -> Count
     ensures { result ≡ count_of code.place }
 {
     row_of(code, &ROWS).1
@@ -98,7 +110,7 @@ pub fn takes_list(code: Code) -> bool
 }
 
 fn row_of(code: Code, rows: &[Row; CODES]) -> Row
-    ensures count { result.1 ≡ get_or (map (λ row. row.1) rows.now) code.place None }
+    ensures count { result.1 ≡ get_or (map (λ row. row.1) rows.now) code.place any_count }
     ensures item { result.2 ≡ get_or (map (λ row. row.2) rows.now) code.place None }
 {
     rows[code.place]

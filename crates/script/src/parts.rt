@@ -9,7 +9,7 @@ ghost use Rattle.script.specs.Grammar.{behind, tail_of, numbers_of, lent_of, len
 ghost use Rattle.script.specs.Parse.{Says, Fits};
 ghost use Rattle.script.specs.declared.line.Line.{Line};
 
-use crate::calls::{Code, REPEAT};
+use crate::calls::{Code, Count, REPEAT};
 use crate::line::{Call, Line};
 use crate::lines::TooLong;
 use crate::{calls, numbers, tokens};
@@ -99,7 +99,10 @@ fn repeat(tail: Tail, first: u64) -> Option<Line>
 fn takes(code: Code, count: usize) -> bool
     ensures { IsTrue result → Takes code.place count }
 {
-    calls::count_of(code).is_none_or(|own| own == count)
+    match calls::count_of(code) {
+        Count::Just(own) => count == own,
+        Count::From(least) => least <= count,
+    }
 }
 
 // What stands behind a name, from its end on: numbers, and the lent count.

@@ -11,7 +11,7 @@ use lib.Seq.{length-take-le, get_or-take}
 use Rattle.lists.specs.Lists.{keep, concat_map, include_all, set_of, total, self, part}
 use Rattle.lists.proofs.Distinct.{every_at}
 use Rattle.lists.proofs.Cuts.{rest_more}
-use Rattle.rules.specs.Numbers.{record_key, owns, shard_for_route}
+use Rattle.rules.specs.Numbers.{record_key, owns}
 use Rattle.rules.specs.Plain.{Edge, is_remote, shard_of}
 use Rattle.rules.specs.Readings.{claimants_of}
 use Rattle.entry.specs.declared.Entry.{Entry}
@@ -67,15 +67,15 @@ module _ (a : List ℕ) (local : ℕ) where
   far_out i h t = rw (rest_more 0 a i h, t)
 
 -- the departed shards, and the trie's put in among them, are the counterparts
-pub counterparts_once : (e : Entry) (local : ℕ) (x : Departures) (d : ℕ) (far : List ℕ) (s t : Set) →
+pub counterparts_once : (e : Entry) (local : ℕ) (x : Departures) (f : ℕ → ℕ) (far : List ℕ) (s t : Set) →
     far ≡ keep (is_remote local) (take e.routes_len e.routes) → Holds (departed_over e.anchor.0 far (on_file x)) s →
-    Holds (include_all self (map (shard_for_route d) far) (front s)) t → Holds (counterparts_at local (on_file x) d (plain_entry e)) t
+    Holds (include_all self (map f far) (front s)) t → Holds (counterparts_at f local (on_file x) (plain_entry e)) t
 unfolding plain_entry
-counterparts_once e local x d far s t q h k =
+counterparts_once e local x f far s t q h k =
     record {
       holds =
           k.holds
-          ∙ ap (include_all self (map (shard_for_route d) far)) h.holds
-          ∙ sym (gathered_once shard_of (shard_for_route d) (is_over e.anchor.0) (on_file x) x.rising far)
-          ∙ ap (λ l. set_of (concat_map (λ (r : ℕ). shard_for_route d r ∷ shards_over e.anchor.0 r (on_file x)) l)) q;
+          ∙ ap (include_all self (map f far)) h.holds
+          ∙ sym (gathered_once shard_of f (is_over e.anchor.0) (on_file x) x.rising far)
+          ∙ ap (λ l. set_of (concat_map (λ (r : ℕ). f r ∷ shards_over e.anchor.0 r (on_file x)) l)) q;
     }

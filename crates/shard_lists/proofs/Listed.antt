@@ -11,7 +11,11 @@ use lib.Dec.{ltb}
 use lib.ListN.{length, take, get_or}
 use lib.Seq.{length-take-le}
 use Rattle.lists.specs.Arrays.{place}
+use Rattle.lists.specs.declared.front.Front.{Front}
+use Rattle.lists.specs.Front.{held}
+use Rattle.lists.proofs.Held.{held-length}
 use Rattle.lists.proofs.Sets.{concat_map-single}
+use Rattle.rules.specs.Numbers.{shard_for_route}
 use Rattle.rules.specs.Plain as plain
 use Rattle.rules.specs.Plain.{Plain, entry_of}
 use Rattle.rules.specs.Readings.{listing, single, list_of, read, list_unstamped, list_counterparts, unstamped_departures, counterparts, counterparts_of, depth_refusal}
@@ -60,27 +64,33 @@ module _ (l : Ledger) (h : Held l) (t : ℕ) (lent : List ℕ) (f : plain.Entry 
 pub set_room : (s : Set) → s.shards.len ≤ length s.shards.items
 set_room s = omega (arith, s.shards.room, s.shards.size)
 
+-- the list in the front of an array, one word an item
+pub of_front : {n : ℕ} (x : Front ℕ n) (items lent after : List ℕ) (r : Result ℕ Refusal) (p : Plain) (m : ℕ) → m ≡ 0 → held x ≡ items → Lists (held x) x.len lent after r →
+    Reads (listing m (length lent) single items p) lent after r
+of_front x items lent after r p m z e w = rw e at (alone (held x) lent after r p m z (rw (held-length x) w))
+
 pub of_departures : (l : Ledger) (s : Set) (lent after : List ℕ) (r : Result ℕ Refusal) → Holds (unstamped_on (on_file l.departures)) s → Lists (front s) s.shards.len lent after r →
     Reads (read (list_unstamped (length lent)) (contents l)) lent after r
 unfolding unstamped_departures contents
-of_departures l s lent after r h w =
-    rw (sym h.holds) (alone (front s) lent after r (contents l) 0 refl (first s.shards.items lent after s.shards.len r (set_room s) w))
+of_departures l s lent after r h w = of_front s.shards (unstamped_departures (contents l)) lent after r (contents l) 0 refl h.holds w
 
--- counterparts: a depth over 32 is refused before anything is looked up
-module _ (l : Ledger) (h : Held l) (t d : ℕ) (lent : List ℕ) where
-  pub too_deep : 32 < d → Reads (read (list_counterparts t d (length lent)) (contents l)) lent lent (Err Malformed)
-  too_deep b = turned_away single (counterparts t d (contents l)) (contents l) (depth_refusal d) lent Malformed (rw (lt-ltb 32 d b))
-
-  shallow : d ≤ 32 → depth_refusal d ≡ 0
-  shallow b = rw (le-ltb 32 d b)
-
-  pub no_counterparts : d ≤ 32 → place (is t) 0 (keys_of l.roster) ≡ None → Reads (read (list_counterparts t d (length lent)) (contents l)) lent lent (Ok 0)
+-- counterparts, by whatever trie, where it is not refused
+module _ (l : Ledger) (h : Held l) (t : ℕ) (lent : List ℕ) (f : ℕ → ℕ) (m : ℕ) (z : m ≡ 0) where
+  pub no_counterparts : place (is t) 0 (keys_of l.roster) ≡ None → Reads (listing m (length lent) single (counterparts f t (contents l)) (contents l)) lent lent (Ok 0)
   unfolding counterparts
-  no_counterparts b e = not-owed l h t lent (counterparts_of (contents l) d) (depth_refusal d) (shallow b) e
+  no_counterparts e = not-owed l h t lent (counterparts_of f (contents l)) m z e
 
-  pub of_counterparts : d ≤ 32 → (k : ℕ) (x : Entry) (s : Set) (after : List ℕ) (r : Result ℕ Refusal) → Owed l t k →
-      Holds (counterparts_at l.local.0 (on_file l.departures) d (plain_entry (get_or l.entries k x))) s →
-      Lists (front s) s.shards.len lent after r → Reads (read (list_counterparts t d (length lent)) (contents l)) lent after r
+  pub of_counterparts : (k : ℕ) (x : Entry) (s : Set) (after : List ℕ) (r : Result ℕ Refusal) → Owed l t k →
+      Holds (counterparts_at f l.local.0 (on_file l.departures) (plain_entry (get_or l.entries k x))) s →
+      Lists (front s) s.shards.len lent after r → Reads (listing m (length lent) single (counterparts f t (contents l)) (contents l)) lent after r
   unfolding counterparts contents
-  of_counterparts b k x s after r e q w =
-      of_owed l h t lent (counterparts_of (contents l) d) (depth_refusal d) (shallow b) k x s.shards.items after s.shards.len r e (set_room s) q.holds w
+  of_counterparts k x s after r e q w =
+      of_owed l h t lent (counterparts_of f (contents l)) m z k x s.shards.items after s.shards.len r e (set_room s) q.holds w
+
+-- a depth over 32 is refused before anything is looked up
+module _ (d : ℕ) where
+  pub too_deep : 32 < d → (l : Ledger) (t : ℕ) (lent : List ℕ) → Reads (read (list_counterparts t d (length lent)) (contents l)) lent lent (Err Malformed)
+  too_deep b l t lent = turned_away single (counterparts (shard_for_route d) t (contents l)) (contents l) (depth_refusal d) lent Malformed (rw (lt-ltb 32 d b))
+
+  pub shallow : d ≤ 32 → depth_refusal d ≡ 0
+  shallow b = rw (le-ltb 32 d b)

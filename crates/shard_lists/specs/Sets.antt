@@ -1,12 +1,14 @@
 -- What a set of numbers holds, and what shards are gathered.
-use Rattle.std.specs.Prelude.{ℕ, ◌≡◌, Bool, List, ◌∷◌, map}
-use Rattle.lists.specs.Lists.{keep, any, concat_map, set_of}
+use Rattle.std.specs.Prelude.{ℕ, ◌≡◌, Bool, List, ◌∷◌, map, length, Result}
+use Rattle.lists.specs.Lists.{keep, any, concat_map, include_all, self, set_of}
 use Rattle.lists.specs.Front.{held}
-use Rattle.rules.specs.Numbers.{shard_for_route}
+use Rattle.types.specs.declared.Shard.{Shard}
+use Rattle.types.specs.declared.refusal.Refusal.{Refusal}
+use Rattle.readings.specs.Reads.{Reads}
 use Rattle.rules.specs.Over.{is_over}
 use Rattle.rules.specs.Plain as plain
-use Rattle.rules.specs.Plain.{shard_of, remote}
-use Rattle.rules.specs.Readings.{is_unstamped}
+use Rattle.rules.specs.Plain.{Plain, shard_of, remote}
+use Rattle.rules.specs.Readings.{is_unstamped, listing, single, counterparts}
 use Rattle.shard_lists.specs.declared.set.Set.{Set}
 use Rattle.store.specs.declared.departures.Departure.{Departure}
 use Rattle.store.specs.declared.departures.Departures.{Departures}
@@ -44,6 +46,22 @@ lacks_stamp d = is_unstamped d.stamp
 abbrev pub unstamped_on : List plain.Departure → List ℕ
 unstamped_on ds = shards_of lacks_stamp ds
 
-abbrev pub counterparts_at : ℕ → List plain.Departure → ℕ → plain.Entry → List ℕ
-counterparts_at local ds d e =
-    set_of (concat_map (λ (r : ℕ). shard_for_route d r ∷ shards_over e.terms.anchor r ds) (remote local e.terms))
+abbrev pub counterparts_at : (shard_for : ℕ → ℕ) → ℕ → List plain.Departure → plain.Entry → List ℕ
+counterparts_at shard_for local ds e =
+    set_of (concat_map (λ (r : ℕ). shard_for r ∷ shards_over e.terms.anchor r ds) (remote local e.terms))
+
+-- By whatever trie the answers are given: Says is what is said of a route that is asked about.
+abbrev pub BySay : (ℕ → Shard → Type 0) → (ℕ → ℕ) → Type 0
+BySay Says shard_for = (route : ℕ) (s : Shard) → Says route s → s.0 ≡ shard_for route
+
+-- the trie's shards of some routes are put in; an entry's counterparts by it
+abbrev pub Tries : (ℕ → Shard → Type 0) → (far stand : List ℕ) → Set → Type 0
+Tries Says far stand s = (f : ℕ → ℕ) → BySay Says f → Holds (include_all self (map f far) stand) s
+
+abbrev pub LiesBeyond : (ℕ → Shard → Type 0) → ℕ → List plain.Departure → plain.Entry → Set → Type 0
+LiesBeyond Says local ds e s = (f : ℕ → ℕ) → BySay Says f → Holds (counterparts_at f local ds e) s
+
+-- a transaction's counterparts by it, written out where nothing is refused
+abbrev pub ListsBeyond : (ℕ → Shard → Type 0) → ℕ → Plain → (lent after : List ℕ) → Result ℕ Refusal → Type 0
+ListsBeyond Says t p lent after r =
+    (f : ℕ → ℕ) → BySay Says f → (m : ℕ) → m ≡ 0 → Reads (listing m (length lent) single (counterparts f t p) p) lent after r

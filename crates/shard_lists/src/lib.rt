@@ -1,14 +1,13 @@
-// The lists of shards and routes: unstamped departures, reach, claimants, counterparts, each one word an item; and the counts by shard, two
-// words an item. Shards are gathered in a set, which is then written out.
+// The lists of shards and routes: unstamped departures, reach, claimants, counterparts, a tree's leaves, each one word an item; and the counts
+// by shard, two words an item. Shards are gathered in a set, which is then written out.
 #![tactic(auto)]
 
 pub mod set;
 
-ghost use Rattle.std.specs.Fn.{FnReturnsAt};
-ghost use Rattle.std.specs.Prelude.{◌≡◌, true, map, ◌≤◌, leb, length};
-ghost use Rattle.lists.specs.Lists.{keep, include_all, self};
+ghost use Rattle.std.specs.Fn.{FnReturns, FnReturnsAt};
+ghost use Rattle.std.specs.Prelude.{◌≡◌, ◌≤◌, length};
+ghost use Rattle.lists.specs.Lists.{keep};
 ghost use Rattle.lists.specs.Front.{held};
-ghost use Rattle.rules.specs.Numbers.{shard_for_route};
 ghost use Rattle.rules.specs.Plain.{is_remote};
 ghost use Rattle.rules.specs.Readings as rules;
 ghost use Rattle.rules.specs.Readings.{read, claimants_of};
@@ -17,7 +16,7 @@ ghost use Rattle.store.specs.Departures as departures;
 ghost use Rattle.store.specs.Departures.{plain_departure};
 ghost use Rattle.ledger.specs.Contents.{contents, Held};
 ghost use Rattle.readings.specs.Reads.{Reads};
-ghost use Rattle.shard_lists.specs.Sets.{front, Holds, Gathers, is_over_some, counterparts_at};
+ghost use Rattle.shard_lists.specs.Sets.{front, Holds, Gathers, is_over_some, Tries, LiesBeyond, ListsBeyond};
 ghost use Rattle.types.specs.Transactions.{number_of};
 
 use entry::{Entry, is_issue};
@@ -27,6 +26,7 @@ use lists::slices::part;
 use readings::reply::list;
 use set::Set;
 use store::departures::{Departure, Departures};
+use trees::Halves;
 use types::refusal::Refusal;
 use types::{RecordKey, Shard, Time, Transaction, shard_for_route};
 
@@ -130,27 +130,50 @@ fn is_over(d: Departure, anchor: Time, far: &[u64]) -> bool
     far.iter().any(|route| d.is_over(*route, anchor))
 }
 
-// The trie's shards of the routes put into a set. What the depth has to be is asked here and in beyond, as shard_for_route asks it: a
-// struct for it would be longer than the two clauses.
-fn put_trie(shards: &mut Set, far: &Front<u64, 8>, d: u32)
-    requires { (shards.old.shards.len ≤ 32) × (leb d 32 ≡ true) }
-    ensures { Holds (include_all self (map (shard_for_route d) (held far.now)) (front shards.old)) shards.new }
+// The trie's shards of the routes put into a set.
+fn put_trie<F: Fn(u64) -> Shard>(shards: &mut Set, far: &Front<u64, 8>, shard_for: F)
+    requires few { shards.old.shards.len ≤ 32 }
+    requires callable { (route : _) → F.pre shard_for route }
+    ensures { Tries (λ route. FnReturns F.Fn shard_for (route, tt)) (held far.now) (front shards.old) shards.new }
 {
     for route in far.as_slice() {
-        shards.include(shard_for_route(d, *route));
+        shards.include(shard_for(*route));
     }
 }
 
 // For the remote routes the trie's shards, and those whose departure is over one. Departures are gone through once: each is held against
 // the routes, not each route against them.
-fn beyond(e: Entry, on_file: Departures, local: Shard, d: u32) -> Set
-    requires { leb d 32 ≡ true }
-    ensures { Holds (counterparts_at local.0 (departures.on_file on_file) d (plain_entry e)) result }
+fn beyond<F: Fn(u64) -> Shard>(e: Entry, on_file: Departures, local: Shard, shard_for: F) -> Set
+    requires { (route : _) → F.pre shard_for route }
+    ensures { LiesBeyond (λ route. FnReturns F.Fn shard_for (route, tt)) local.0 (departures.on_file on_file) (plain_entry e) result }
 {
     let far = remote(&e.routes[..e.routes_len as usize], local);
     let mut shards = shards_of(on_file, |d| is_over(*d, e.anchor, far.as_slice()));
-    put_trie(&mut shards, &far, d);
+    put_trie(&mut shards, &far, shard_for);
     shards
+}
+
+// These of the transaction's entry written out; a transaction that is not owed has none.
+fn list_beyond<F: Fn(u64) -> Shard>(
+    ledger: &Ledger,
+    tx: Transaction,
+    lent: &mut [u64],
+    shard_for: F,
+) -> Result<u64, Refusal>
+    requires held { Held ledger.now }
+    requires callable { (route : _) → F.pre shard_for route }
+    ensures { ListsBeyond (λ route. FnReturns F.Fn shard_for (route, tt)) (number_of tx) (contents ledger.now) lent.old lent.new result }
+{
+    let Some(slot) = ledger.roster.slot_of(tx) else {
+        return Ok(0);
+    };
+    let shards = beyond(
+        ledger.entries[slot],
+        ledger.departures,
+        ledger.local,
+        shard_for,
+    );
+    shards.list(lent)
 }
 
 #[tactic(auto, using(crate::proofs::Listed::too_deep))]
@@ -166,14 +189,33 @@ pub fn counterparts(
     if depth > 32 {
         return Err(Refusal::Malformed);
     }
-    let Some(slot) = ledger.roster.slot_of(tx) else {
-        return Ok(0);
-    };
-    let shards = beyond(
-        ledger.entries[slot],
-        ledger.departures,
-        ledger.local,
-        depth as u32,
-    );
-    shards.list(lent)
+    list_beyond(ledger, tx, lent, |route| {
+        shard_for_route(depth as u32, route)
+    })
+}
+
+// The counterparts where the trie is the tree of these marks.
+pub fn counterparts_by_tree(
+    ledger: &Ledger,
+    tx: Transaction,
+    marks: &[u64],
+    lent: &mut [u64],
+) -> Result<u64, Refusal>
+    requires { Held ledger.now }
+    ensures { Reads (read (rules.list_counterparts_by_tree (number_of tx) marks.now (length lent.old)) (contents ledger.now)) lent.old lent.new result }
+{
+    let mut trie = Halves::new();
+    trie.read(marks)?;
+    list_beyond(ledger, tx, lent, |route| trie.leaf_of(marks, route))
+}
+
+// The leaves of the tree of these marks, from left to right. It asks nothing of the ledger.
+pub fn leaves(ledger: &Ledger, marks: &[u64], lent: &mut [u64]) -> Result<u64, Refusal>
+    requires { Held ledger.now }
+    ensures { Reads (read (rules.list_leaves marks.now (length lent.old)) (contents ledger.now)) lent.old lent.new result }
+{
+    let mut tree = Halves::new();
+    tree.read(marks)?;
+    let shards = tree.leaves(marks);
+    list(shards.as_slice(), shards.len, lent)
 }

@@ -1,10 +1,11 @@
 -- Bits of numbers: where the highest one bit is, what the leading zeros say of it, and a route with a one bit put in front.
 -- Assumes nothing.
-use Rattle.std.proofs.Common.{◌≡◌, ℕ, zero, suc, ◌+◌, ◌-◌, ◌/◌, ◌^◌, ◌<◌, ◌≤◌, Bool, true, false, cond, ◌&&◌, eqb, ltb, leb, sym, refl, ap, ◌∙◌, add_comm, arith, pow_pos, pow_mono, pow-add, ltb-true, eq-eqb, eqb-true, leb-false, leb-true, le-leb, min, max}
+use Rattle.std.proofs.Common.{◌≡◌, ℕ, zero, suc, ◌+◌, ◌-◌, ◌/◌, ◌^◌, ◌<◌, ◌≤◌, Bool, true, false, cond, ◌&&◌, eqb, ltb, leb, sym, refl, ap, ◌∙◌, add_comm, arith, pow_pos, pow_mono, pow-add, ltb-true, leb-false, leb-true, le-leb, min, max}
 use Rattle.std.proofs.Math.Nat.{min-eq_left, min-eq_right, max-eq_left}
 use native.Mathlib.Nat.{div-eq_of_lt, add-mul-div_right, div-div-eq-div-mul, pow-succ'}
 use lib.Count.{count_leading_zeros, leading_top}
-use Rattle.lists.proofs.Tests.{and_left, and_right, same_test}
+use Rattle.lists.proofs.Tests.{and_left, and_right}
+use Rattle.rules.proofs.Depth.{lower, highest, moved}
 use Rattle.rules.specs.Numbers.{is_shard, highest_bit, depth, owns, top_bits, shard_for_route}
 
 -- two tests joined: the first decides where it fails, else the second
@@ -13,28 +14,6 @@ second a b h = rw h
 
 pub first : (a b : Bool) → a ≡ false → a ≡ a && b
 first a b h = rw h
-
--- of two powers of 2, the lower has the lower exponent
-lower : (i j n : ℕ) → 2 ^ i ≤ n → n < 2 ^ suc j → i ≤ j
-lower i j n l h = by_order (leb (suc j) i) refl
-  where
-    by_order : (b : Bool) → leb (suc j) i ≡ b → i ≤ j
-    by_order true e =
-        let up = pow_mono (leb-true (suc j) i e) in
-        let gone : ⊥ = omega arith in
-        absurd gone
-    by_order false e = omega (arith, leb-false (suc j) i e)
-
--- the search for the highest one bit from the limit down finds it
-pub highest : (limit n j : ℕ) → 2 ^ j ≤ n → n < 2 ^ suc j → j ≤ limit → highest_bit limit n ≡ j
-highest zero n j l h k = omega arith
-highest (suc limit) n j l h k = go (highest limit n j l h) (leb (2 ^ suc limit) n) refl
-  where
-    go : (j ≤ limit → highest_bit limit n ≡ j) → (b : Bool) → leb (2 ^ suc limit) n ≡ b → cond b (suc limit) (highest_bit limit n) ≡ j
-    go rest true e =
-        let near = lower (suc limit) j n (leb-true (2 ^ suc limit) n e) h in
-        omega arith
-    go rest false e = rest (lower j limit n l (leb-false (2 ^ suc limit) n e))
 
 -- a number past the limit has it for its depth
 capped : (limit n : ℕ) → 2 ^ limit ≤ n → highest_bit limit n ≡ limit
@@ -61,22 +40,10 @@ unfolding depth
 depth-some zero = refl
 depth-some (suc n) = ap depth (max-eq_left (let z : 1 ≤ suc n = omega arith in z))
 
--- the highest one bit is in a number that is not 0, and no higher than the limit
-bit_within : (limit n : ℕ) → 1 ≤ n → 2 ^ highest_bit limit n ≤ n
-bit_within zero n h = h
-bit_within (suc limit) n h = go (bit_within limit n h) (leb (2 ^ suc limit) n) refl
-  where
-    go : 2 ^ highest_bit limit n ≤ n → (b : Bool) → leb (2 ^ suc limit) n ≡ b → 2 ^ cond b (suc limit) (highest_bit limit n) ≤ n
-    go below true e = leb-true (2 ^ suc limit) n e
-    go below false e = below
-
+-- it is no higher than the limit
 bit_limit : (limit n : ℕ) → highest_bit limit n ≤ limit
 bit_limit zero n = omega arith
 bit_limit (suc limit) n = elim (leb (2 ^ suc limit) n) as (λ b. cond b (suc limit) (highest_bit limit n) ≤ suc limit) [ true ↦ omega arith | false ↦ omega (arith, bit_limit limit n) ]
-
-pub depth-within : (n : ℕ) → 1 ≤ n → 2 ^ depth n ≤ n
-unfolding depth
-depth-within n h = bit_within 32 n h
 
 pub depth-small : (n : ℕ) → depth n ≤ 32
 unfolding depth
@@ -110,13 +77,6 @@ led d s route e =
     ∙ add-mul-div_right (route / 2) (2 ^ d) (pow_pos s)
     ∙ ap (λ (x : ℕ). x + 2 ^ d) (div-div-eq-div-mul route 2 (2 ^ s) ∙ ap (λ (x : ℕ). route / x) (sym (pow-succ' 2 s)) ∙ ap (λ (x : ℕ). route / 2 ^ x) rest)
     ∙ add_comm (route / 2 ^ (64 - d)) (2 ^ d)
-
--- the number with b taken off, or b put on the other
-pub moved : (a b n : ℕ) → b ≤ n → eqb (b + a) n ≡ eqb a (n - b)
-moved a b n h =
-    same_test (eqb (b + a) n) (eqb a (n - b))
-    (λ e. eq-eqb a (n - b) (omega (arith, eqb-true (b + a) n e)))
-    (λ e. eq-eqb (b + a) n (omega (arith, eqb-true a (n - b) e)))
 
 -- the comparison of one shift is ownership
 pub owned-at : (n route s : ℕ) → depth n + s ≡ 63 → 2 ^ depth n ≤ n → eqb ((route / 2 + 2 ^ 63) / 2 ^ s) n ≡ owns n route

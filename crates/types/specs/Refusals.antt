@@ -2,7 +2,7 @@
 use Rattle.std.specs.Prelude.{ℕ, Ok, Err}
 use Rattle.std.specs.Prelude.{Result}
 use Rattle.types.specs.declared.refusal.Refusal.{Refusal}
-use Rattle.types.specs.declared.refusal.Refusal.TheVariants.{NoLocal, NoSpan, NoTime, NoShard, Malformed, EntriesFull, AbsencesFull, DeparturesFull, ListShort, UnknownKind, NoBundle, NoSnapshot, NeverWritten, CountsFull}
+use Rattle.types.specs.declared.refusal.Refusal.TheVariants.{NoLocal, NoSpan, NoTime, NoShard, Malformed, EntriesFull, AbsencesFull, DeparturesFull, ListShort, UnknownKind, NoBundle, NoSnapshot, NeverWritten, CountsFull, NoTree, TreeTooLarge}
 
 abbrev pub refusal_number : Refusal → ℕ
 refusal_number NoLocal = 1
@@ -19,6 +19,8 @@ refusal_number NoBundle = 11
 refusal_number NoSnapshot = 12
 refusal_number NeverWritten = 13
 refusal_number CountsFull = 14
+refusal_number NoTree = 15
+refusal_number TreeTooLarge = 16
 
 abbrev pub refused_in : {A : Type 0} → Result A Refusal → ℕ
 refused_in (Ok x) = 0

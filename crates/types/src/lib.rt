@@ -5,14 +5,14 @@
 pub mod refusal;
 pub mod widths;
 
-ghost use Rattle.std.specs.Prelude.{◌≡◌, ◌+◌, ◌≤◌, ◌++◌, true, ltb, length, ◌/◌, ◌^◌, nat_le};
+ghost use Rattle.std.specs.Prelude.{◌≡◌, ◌+◌, ◌≤◌, ◌++◌, true, ltb, length, drop, ◌/◌, ◌^◌, nat_le};
 ghost use Rattle.std.proofs.lemmas.List.Edits.{sets};
 ghost use Rattle.lists.specs.Lists.{has, self as itself};
 ghost use Rattle.rules.specs.Numbers.{is_time, is_shard, is_span, depth, owns, shard_for_route, record_key, cell_key};
 ghost use Rattle.rules.specs.Words.{transaction_size, transaction_at, transaction_words, transactions_in};
 ghost use Rattle.types.specs.Transactions.{number_of};
 
-use lists::slices::{contains, word_at};
+use lists::slices::{contains, word_at, words_behind};
 
 // A time in milliseconds.
 #[derive(Clone, Copy, PartialEq, Eq, PartialOrd, Ord)]
@@ -65,6 +65,13 @@ impl Transaction {
         ensures { number_of result ≡ transaction_at at words.now }
     {
         Transaction(word_at(words, at))
+    }
+
+    // The words behind the one that they begin with.
+    pub fn behind(words: &[u64]) -> &[u64]
+        ensures { result.now ≡ drop transaction_size words.now }
+    {
+        words_behind(words, 1)
     }
 
     // Its words put down at a place.

@@ -25,6 +25,9 @@ pub enum Refusal {
     NeverWritten = 13,
     // Rebuilding: the shard has no count, and none is free.
     CountsFull = 14,
+    // Reading a tree: its marks end early, go on or hold another value; they are too many, or a split lies too deep.
+    NoTree = 15,
+    TreeTooLarge = 16,
 }
 
 impl Refusal {

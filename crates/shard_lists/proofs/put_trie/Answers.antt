@@ -1,13 +1,17 @@
 -- Each turn puts in the trie's shard of the next route.
-use Rattle.std.proofs.Common.{drop, map, ◌+◌, ◌∷◌, ◌∙◌, ap, sym, arith}
-use Rattle.rules.specs.Numbers.{shard_for_route}
-use Rattle.lists.proofs.Cuts.{rest_more}
-use Rattle.shard_lists.proofs.Gather.{put_one}
+use Rattle.std.proofs.Common.{arith, refl}
+use Rattle.std.proofs.lemmas.Fn.{says}
+use Rattle.shard_lists.proofs.Trie.{none_tried, tried, all_tried}
 use Rattle.shard_lists.proofs.put_trie.Goals as goal
 
+pub loop-route-init : goal.loop-route-init
+loop-route-init g c = none_tried _ _ _
+
 pub loop-route-preserved : goal.loop-route-preserved
-loop-route-preserved c =
+loop-route-preserved g c =
     let l = c.loop-route in
-    let s = c.as_slice-route-items.result.now in
-    let rest = map (shard_for_route c.args.d) (drop (l.route-index + 1) s) in
-    put_one _ _ rest _ _ (ap (map (shard_for_route c.args.d)) (rest_more 0 s l.route-index (omega arith)) ∙ ap (λ x. x ∷ rest) (sym c.shard_for_route.ensures)) (omega arith) l.invariant c.include.ensures
+    let said = says g.F.Fn c.shard_for.ensures refl in
+    tried _ _ _ l.route-index l.shards _ _ (omega arith) said l.invariant c.include.ensures
+
+pub returns : goal.returns
+returns g c = rw c.as_slice-route-items.ensures at (all_tried _ _ _ c.loop-route.route-index c.loop-route.shards (omega arith) c.loop-route.invariant)

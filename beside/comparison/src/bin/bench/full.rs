@@ -14,7 +14,8 @@ pub fn cases() -> Vec<Case> {
         .collect()
 }
 
-fn ledger(entry: impl Fn(u64) -> Entry) -> Vec<String> {
+/// A full ledger of such entries.
+pub fn ledger(entry: impl Fn(u64) -> Entry) -> Vec<String> {
     let taken = (1..=FULL).map(|tx| entry(tx).taken_in());
     [MAKING.to_string()].into_iter().chain(taken).collect()
 }

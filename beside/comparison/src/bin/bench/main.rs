@@ -13,6 +13,7 @@ mod rows;
 mod snapshots;
 mod stack;
 mod timing;
+mod trees;
 mod work;
 
 use std::error::Error;
@@ -35,10 +36,11 @@ type Failing<T> = Result<T, Box<dyn Error>>;
 const USAGE: &str = "usage: bench REFERENCE PORT ROOT [ROWS]: the two programs to time, and the repository's folder; with ROWS only the rows \
                      whose names have that in them are timed, and nothing is written";
 /// The titles of the tables in the picture.
-const PICTURED: [&str; 6] = [
+const PICTURED: [&str; 7] = [
     "Changing calls, 48 entries",
     "Readings, 48 entries",
     "A full ledger gone over",
+    "Trees",
     "A block's work",
     "Bundles",
     "Snapshots, 48 entries",
@@ -110,6 +112,7 @@ impl<'a> Bench<'a> {
         for (title, cases) in &asked.groups {
             shown.push(self.calls(title, cases)?);
         }
+        shown.push(self.trees(&asked.trees)?);
         shown.push(self.blocks(&asked.blocks)?);
         shown.push(self.bundles(&asked.bundles)?);
         shown.push(self.snapshots(&asked.snapshots)?);
@@ -123,12 +126,25 @@ impl<'a> Bench<'a> {
     /// A table of these cases; the rows of it that the picture shows are handed back.
     fn calls(&mut self, title: &str, cases: &[Case]) -> Failing<Vec<Row>> {
         self.page.table(title);
+        self.timed(cases)
+    }
+
+    /// The rows of these cases; those that the picture shows are handed back.
+    fn timed(&mut self, cases: &[Case]) -> Failing<Vec<Row>> {
         let mut shown = Vec::new();
         for case in cases {
             let costs = [self.programs[0].cost(case)?, self.programs[1].cost(case)?];
             let row = self.row(case.name.to_string(), case.entries, costs);
             shown.extend(row.filter(|_| case.pictured));
         }
+        Ok(shown)
+    }
+
+    /// Trees, and behind them how counterparts by tree stand to those by depth.
+    fn trees(&mut self, cases: &[Case]) -> Failing<Vec<Row>> {
+        self.page.trees();
+        let shown = self.timed(cases)?;
+        self.page.by_tree(&shown);
         Ok(shown)
     }
 

@@ -1,6 +1,7 @@
 //! The page of tables: every line is printed as it comes and kept for the file.
 
 use crate::timing::Cost;
+use crate::trees::PAIRS;
 
 const COLUMNS: [&str; 6] = [
     "call",
@@ -51,6 +52,10 @@ const OF_SNAPSHOTS: [&str; 2] = [
      `dump`. The last column has the comparison's own reader of snapshots. Restores and calls alike are timed in blocks, and come upon a ledger as full as the one that they make: the Rust \
      has to free that, which is in its figures, and the port has nothing to free.",
 ];
+
+const OF_TREES: &str = "The three calls take a tree as marks (`docs/VALIDATOR.md`): here one of 31 leaves, the first of them at depth 16, the last eight at depth 4. The Rust's trie lies outside its ledger and is stood in for, \
+     as the leaves with the first route of each. They are made of the marks in every call and searched by halves, which is in the Rust's figures. Counterparts are those of an entry with eight remote routes beside 32 departures; \
+     the routes lie in leaves at depth 4, so by depth 4 the same is listed.";
 
 /// How many times its error a figure must be to stand without it, and to be set against another.
 const SURE: f64 = 10.0;
@@ -131,6 +136,13 @@ impl Page {
         self.columns(&COLUMNS);
     }
 
+    pub fn trees(&mut self) {
+        self.heading("Trees");
+        self.say(OF_TREES);
+        self.say("");
+        self.columns(&COLUMNS);
+    }
+
     pub fn bundles(&mut self) {
         self.longer_table("Bundles", &OF_BUNDLES, "the Rust with a copy, ns");
     }
@@ -148,6 +160,26 @@ impl Page {
             self.say("");
         }
         self.columns(&[&COLUMNS[..], &[column]].concat());
+    }
+
+    /// How many times as long counterparts take by tree as by depth, where the figures of both rows are clear.
+    pub fn by_tree(&mut self, rows: &[Row]) {
+        let named = |name: &str| rows.iter().find(|row| row.name == name);
+        for pair in PAIRS {
+            let (Some(depth), Some(tree)) = (named(pair.by_depth), named(pair.by_tree)) else {
+                continue;
+            };
+            let [port, rust] = [
+                tree.port.value / depth.port.value,
+                tree.rust.value / depth.rust.value,
+            ]
+            .map(rounded);
+            self.say("");
+            self.say(&format!(
+                "Counterparts by tree / by depth, {}: {port} times for the port, where twice is allowed, and {rust} times for the Rust.",
+                pair.when
+            ));
+        }
     }
 
     pub fn tell_stack(&mut self, least: Option<u64>) {

@@ -9,11 +9,12 @@ use crate::cases::Case;
 use crate::ledgers::FULL;
 use crate::snapshots::{self, Snapshot};
 use crate::work::{self, Block};
-use crate::{full, levels};
+use crate::{full, levels, trees};
 
 pub struct Rows {
     /// Tables of calls, each behind its title.
     pub groups: [(&'static str, Vec<Case>); 3],
+    pub trees: Vec<Case>,
     pub blocks: Vec<Block>,
     pub bundles: Vec<Bundle>,
     pub snapshots: Vec<Snapshot>,
@@ -30,6 +31,7 @@ impl Rows {
         ];
         Self {
             groups: groups.map(|(title, cases)| (title, only(cases, asked))),
+            trees: only(trees::cases(), asked),
             blocks: only(work::blocks().into(), |block| asked(&block.case)),
             bundles: only(bundles::rows(), |bundle| asked(&bundle.case)),
             snapshots: only(snapshots::rows(), |snapshot| asked(&snapshot.case)),
@@ -37,7 +39,8 @@ impl Rows {
     }
 
     fn calls(&self) -> impl Iterator<Item = &Case> {
-        self.groups.iter().flat_map(|(_, cases)| cases)
+        let groups = self.groups.iter().flat_map(|(_, cases)| cases);
+        groups.chain(&self.trees)
     }
 
     /// Bundles, and snapshots with the calls beside them.

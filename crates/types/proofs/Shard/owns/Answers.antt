@@ -1,7 +1,8 @@
 -- Shifted by what is not depth, the route led by a one bit is the shard of that depth for the route.
 use Rattle.std.proofs.Common.{◌-◌, arith}
 use Rattle.rules.specs.Numbers.{depth}
-use Rattle.types.proofs.Bits.{depth-small, depth-within, owned-at, owned-zero}
+use Rattle.rules.proofs.Depth.{depth-within}
+use Rattle.types.proofs.Bits.{depth-small, owned-at, owned-zero}
 use Rattle.types.proofs.Shard.owns.Goals as goal
 
 pub returns-then-self-eq0 : goal.returns-then-self-eq0

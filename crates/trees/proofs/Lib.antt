@@ -1,0 +1,3 @@
+pub mod Split
+pub mod Read
+pub mod Down
