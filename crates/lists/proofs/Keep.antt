@@ -171,6 +171,11 @@ every-has P r (x ∷ l) v h = go (eqb x r) refl h (every-has P r l v.1)
     go true e k later = rw (eqb-true x r e) at v.0
     go false e k later = later k
 
+-- what two functions say end to end, where they say the same of each
+pub concat_map_alike : {A B : Type 0} (P : A → Type 0) (f g : A → List B) → ((x : A) → P x → f x ≡ g x) → (l : List A) → Every P l → concat_map f l ≡ concat_map g l
+concat_map_alike P f g h [] v = refl
+concat_map_alike P f g h (x ∷ l) v = ap (λ k. k ++ concat_map f l) (h x v.0) ∙ ap (λ k. g x ++ k) (concat_map_alike P f g h l v.1)
+
 pub concat_map-append : {A B : Type 0} (f : A → List B) (a b : List A) → concat_map f (a ++ b) ≡ concat_map f a ++ concat_map f b
 concat_map-append f [] b = refl
 concat_map-append f (x ∷ a) b = rw (concat_map-append f a b, append_assoc)

@@ -1,7 +1,7 @@
 -- Which making, which call and which reading each name of a script makes: from the script's table of names to the rules.
 use Rattle.std.specs.Prelude.{ℕ, ◌≡◌, List, [], ◌∷◌, map, take, drop, Some}
 use Rattle.std.specs.Option.{option_map}
-use Rattle.rules.specs.Words.{word}
+use Rattle.rules.specs.Words.{word, transaction_size}
 use Rattle.rules.specs.Calls as rules
 use Rattle.rules.specs.Readings as readings
 use Rattle.script.specs.Calls.{names, code_of}
@@ -70,5 +70,5 @@ pub record Named (ws : List ℕ) (room : ℕ) : Type 0 where
       ∷ readings.rebuilt_by_shard room
       ∷ readings.leaf_for_route (word 0 ws) (drop 1 ws)
       ∷ readings.list_leaves ws room
-      ∷ readings.list_counterparts_by_tree (word 0 ws) (drop 1 ws) room
+      ∷ readings.list_counterparts_by_tree (word 0 ws) (drop transaction_size ws) room
       ∷ [])

@@ -1,13 +1,13 @@
 -- Depth and the way of a route: a shard's depth by its bounds, the shard at a depth that a route runs through, the next one by the route's next
 -- bit, and ownership by that.
 -- Assumes nothing.
-use Rattle.std.proofs.Common.{◌≡◌, ℕ, zero, suc, ◌+◌, ◌-◌, ◌*◌, ◌/◌, ◌^◌, ◌<◌, ◌≤◌, Bool, true, false, cond, eqb, ltb, leb, sym, refl, ap, ◌∙◌, arith, pow_pos, pow_mono, ltb-true, eq-eqb, ne_eqb, eqb-true, leb-false, leb-true, le-leb, lt-ltb, mul_comm, mod-lt}
+use Rattle.std.proofs.Common.{◌≡◌, ℕ, zero, suc, ◌+◌, ◌-◌, ◌*◌, ◌/◌, ◌^◌, ◌<◌, ◌≤◌, Bool, true, false, cond, eqb, ltb, leb, sym, refl, ap, ◌∙◌, arith, pow_pos, pow_mono, ltb-true, eq-eqb, eqb-true, leb-false, leb-true, le-leb, lt-ltb, mul_comm, mod-lt}
 use native.Mathlib.Nat.{div-eq_of_lt, div-div-eq-div-mul, pow-succ'}
 use Rattle.std.proofs.Math.Nat.{div-add-mod, div-mul-le_self}
 use Rattle.std.proofs.lemmas.Nat.{le-div}
 use Rattle.lists.proofs.Tests.{same_test, and_both}
 use Rattle.rules.specs.Numbers.{is_word, is_shard, highest_bit, depth, owns, top_bits, shard_for_route}
-use Rattle.rules.specs.Tree.{Tree, split, bit_at, leaf_below}
+use Rattle.rules.specs.Tree.{bit_at}
 
 -- of two powers of 2, the lower has the lower exponent
 pub lower : (i j n : ℕ) → 2 ^ i ≤ n → n < 2 ^ suc j → i ≤ j
@@ -120,11 +120,3 @@ by_bit {P} d route left right = go (bit_at d route) (bit_small d route) refl
     go : (b : ℕ) → b < 2 → bit_at d route ≡ b → P
     go zero small e = left e
     go (suc b) small e = right (omega (arith, small, e))
-
--- a leaf lies in the half that the next bit says
-module _ (d n : ℕ) (l r : Tree) (route : ℕ) where
-  pub leaf_left : bit_at d route ≡ 0 → leaf_below d n (split l r) route ≡ leaf_below (suc d) (2 * n) l route
-  leaf_left e = rw (eq-eqb (bit_at d route) 0 e)
-
-  pub leaf_right : bit_at d route ≡ 1 → leaf_below d n (split l r) route ≡ leaf_below (suc d) (2 * n + 1) r route
-  leaf_right e = rw (ne_eqb (bit_at d route) 0 (λ q. omega (arith, e, q)))

@@ -1,4 +1,5 @@
--- What the walk of marks takes and refuses: just the marks of a tree within the limits, that tree; and of others the first breach from the left.
+-- What the walk of marks takes and refuses: just the marks of a tree within the limits, that tree; and of others the first breach from the left. How
+-- many leaves a tree has, and in which half of a split a route has its leaf.
 -- Assumes nothing.
 use Prim.Native.Nat.{ℕ, zero, suc, ◌+◌, ◌*◌, ◌≤◌}
 use mathlib.Core.Path.{◌≡◌, refl, sym, ap, ◌∙◌}
@@ -9,8 +10,9 @@ use borrow.Author.Tests.{le-ltb, ltb-false, eq-eqb, ne_eqb}
 use lib.Dec.{ltb}
 use lib.ListN.{length, length-append}
 use Rattle.lists.specs.Lists.{filled}
+use Rattle.rules.specs.Numbers.{max_tree, max_height}
 use Rattle.rules.specs.Outcome.{◌gives◌then◌}
-use Rattle.rules.specs.Tree.{Tree, leaf, split, marks_of, height, Walked, whole, broken, joined, and_then, walk, refusal_of, tree_refusal, tree_in, tree_of, leaves_below, max_tree, max_height, WithinLimits, Accepted, first_breach, first_refusal}
+use Rattle.rules.specs.Tree.{Tree, leaf, split, marks_of, height, Walked, whole, broken, joined, and_then, walk, refusal_of, tree_refusal, tree_in, tree_of, bit_at, leaves_below, leaf_below, WithinLimits, Accepted, first_breach, first_refusal}
 
 -- What was walked stands in front of the marks and is no deeper than was allowed; what broke gives 15 or 16.
 abbrev Shown : (left : ℕ) (marks : List ℕ) → Walked → Type 0
@@ -115,3 +117,11 @@ marks-leaves n (split l r) =
       marks-leaves (2 * n) l,
       marks-leaves (2 * n + 1) r,
     )
+
+-- a leaf lies in the half that the next bit says
+module _ (d n : ℕ) (l r : Tree) (route : ℕ) where
+  pub leaf_left : bit_at d route ≡ 0 → leaf_below d n (split l r) route ≡ leaf_below (suc d) (2 * n) l route
+  leaf_left e = rw (eq-eqb (bit_at d route) 0 e)
+
+  pub leaf_right : bit_at d route ≡ 1 → leaf_below d n (split l r) route ≡ leaf_below (suc d) (2 * n + 1) r route
+  leaf_right e = rw (ne_eqb (bit_at d route) 0 (λ q. omega (arith, e, q)))

@@ -19,8 +19,8 @@ use Rattle.lists.proofs.Contained.{contains_first, contains_none, contains_tail,
 use Rattle.lists.proofs.Keep.{every_append}
 use Rattle.rules.specs.Numbers.{is_word, is_shard, owns, shard_for_route}
 use Rattle.rules.specs.Tree.{Tree, leaf, split, height, leaves, leaves_below, leaf_below, bit_at, tree_refusal, tree_of, Ahead, InOrder, Parts}
-use Rattle.rules.proofs.Depth.{At, root_at, left_at, right_at, owns_at, shard_at, from_root, next_bit, lower_top, bit_small, by_bit, leaf_left, leaf_right}
-use Rattle.rules.proofs.Tree.{accepted-height}
+use Rattle.rules.proofs.Depth.{At, root_at, left_at, right_at, owns_at, shard_at, from_root, next_bit, lower_top, bit_small, by_bit}
+use Rattle.rules.proofs.Tree.{accepted-height, leaf_left, leaf_right}
 
 -- a route runs through a shard at its depth
 abbrev Through : ℕ → ℕ → ℕ → Type 0

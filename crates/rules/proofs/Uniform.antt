@@ -10,8 +10,8 @@ use native.Mathlib.Omega.{arith}
 use borrow.Author.Tests.{le-ltb}
 use lib.ListN.{length, length-append}
 use Rattle.std.proofs.Common.{pow_mono}
-use Rattle.lists.specs.Lists.{Every, at, keep, find, concat_map, set_of}
-use Rattle.lists.proofs.Keep.{every_keep}
+use Rattle.lists.specs.Lists.{Every, at, keep, find, set_of}
+use Rattle.lists.proofs.Keep.{every_keep, concat_map_alike}
 use Rattle.rules.specs.Numbers.{is_word, shard_for_route, count_from}
 use Rattle.rules.specs.Plain.{Plain, Entry, transaction_of, shard_of, remote, is_remote}
 use Rattle.rules.specs.Good.{Good, GoodEntry, Holds}
@@ -20,8 +20,8 @@ use Rattle.rules.specs.Over.{over}
 use Rattle.rules.specs.Tree.{marks_of, height, leaves_below, leaf_below, leaf_of, tree_of, Accepted}
 use Rattle.rules.specs.Readings.{listing, single, list_of, counterparts, counterparts_of}
 use Rattle.rules.specs.Uniform.{uniform, AsDepth}
-use Rattle.rules.proofs.Depth.{from_root, next_bit, by_bit, leaf_left, leaf_right}
-use Rattle.rules.proofs.Tree.{taken}
+use Rattle.rules.proofs.Depth.{from_root, next_bit, by_bit}
+use Rattle.rules.proofs.Tree.{taken, leaf_left, leaf_right}
 
 uniform-height : (d : ℕ) → height (uniform d) ≡ d
 uniform-height zero = refl
@@ -69,10 +69,6 @@ uniform-leaf d (suc k) n route h e =
     ∙ ap (λ i. shard_for_route i route) (let z : suc d + k ≡ d + suc k = omega arith in z)
 
 -- Two tries that say the same of every word give the same counterparts.
-concat_map_alike : {A B : Type 0} (P : A → Type 0) (f g : A → List B) → ((x : A) → P x → f x ≡ g x) → (l : List A) → Every P l → concat_map f l ≡ concat_map g l
-concat_map_alike P f g h [] v = refl
-concat_map_alike P f g h (x ∷ l) v = ap (λ k. k ++ concat_map f l) (h x v.0) ∙ ap (λ k. g x ++ k) (concat_map_alike P f g h l v.1)
-
 found_alike : (P : Entry → Type 0) (f g : Entry → List ℕ) → ((e : Entry) → P e → f e ≡ g e) → (q : Entry → Bool) (es : List Entry) → Every P es → list_of f (find q es) ≡ list_of g (find q es)
 found_alike P f g h q [] v = refl
 found_alike P f g h q (e ∷ es) v = go (q e) (h e v.0) (found_alike P f g h q es v.1)

@@ -86,6 +86,13 @@ max_pairs = 384
 abbrev pub max_depth : ℕ
 max_depth = 32
 
+-- marks of a tree, and how deep its leaves may lie
+abbrev pub max_tree : ℕ
+max_tree = 63
+
+abbrev pub max_height : ℕ
+max_height = 16
+
 -- shards with a count of rebuilt entries
 abbrev pub max_counts : ℕ
 max_counts = 32

@@ -2,15 +2,8 @@
 use Rattle.std.specs.Prelude.{ℕ, zero, suc, ◌≡◌, ◌≤◌, ◌<◌, ◌+◌, ◌*◌, ◌%◌, max, true, cond, eqb, ltb, List, [], ◌∷◌, ◌++◌, length, Contains}
 use Rattle.lists.specs.Lists.{filled, Every}
 use Rattle.lists.specs.Arrays.{Distinct}
-use Rattle.rules.specs.Numbers.{is_word, is_shard, owns, top_bits}
+use Rattle.rules.specs.Numbers.{is_word, is_shard, owns, top_bits, max_tree, max_height}
 use Rattle.rules.specs.Outcome.{◌gives◌then◌}
-
--- limits
-abbrev pub max_tree : ℕ
-max_tree = 63
-
-abbrev pub max_height : ℕ
-max_height = 16
 
 pub data Tree : Type 0 where
   leaf : Tree

@@ -13,8 +13,7 @@ use Rattle.lists.specs.Front.{held}
 use Rattle.lists.specs.declared.front.Front.{Front}
 use Rattle.lists.proofs.Held.{held-length}
 use Rattle.rules.specs.Tree.{Tree, leaf, split, marks_of, height, leaf_of, leaf_below, bit_at, leaves_below}
-use Rattle.rules.proofs.Depth.{leaf_left, leaf_right}
-use Rattle.rules.proofs.Tree.{marks-leaves}
+use Rattle.rules.proofs.Tree.{marks-leaves, leaf_left, leaf_right}
 use Rattle.trees.specs.Walks.{Noted, OfTree, Below, right_of}
 
 -- where no leaf is noted a split is, with its halves

@@ -1,6 +1,7 @@
 -- What a walk of marks notes of a tree, and what it says of one that breaks.
 use Rattle.std.specs.Prelude.{ℕ, ◌≡◌, ◌≤◌, ◌<◌, ◌+◌, ◌*◌, ◌^◌, Bool, true, false, cond, eqb, List, length, get_or, drop}
-use Rattle.rules.specs.Tree.{Tree, leaf, split, marks_of, height, Walked, whole, broken, walk, and_then, max_height}
+use Rattle.rules.specs.Numbers.{max_height}
+use Rattle.rules.specs.Tree.{Tree, leaf, split, marks_of, height, Walked, whole, broken, walk, and_then}
 
 -- where the right half of a split begins: behind the split and its left half
 abbrev pub right_of : ℕ → Tree → ℕ
