@@ -11,19 +11,18 @@ use sweeps::prune::prune;
 use types::widths::{REPORT_WORDS, REPORTS_ROOM};
 use types::{Time, is_time};
 
-// Whether the clocks are times and never fall.
-#[tactic(auto, using(crate::proofs::Clocks::steady_sorted, crate::proofs::Clocks::steady_not))]
+// Whether the clocks are times and never fall: the first that falls or is no time ends the search.
 fn is_nondecreasing(clocks: &[u64]) -> bool
     ensures { result ≡ steady 0 clocks.now }
 {
-    clocks.is_sorted() && are_times(clocks)
-}
-
-// The library's `all`, with the rule's own words in the contract.
-fn are_times(clocks: &[u64]) -> bool
-    ensures { result ≡ all is_time clocks.now }
-{
-    clocks.iter().all(|clock| is_time(*clock))
+    let mut last = 0;
+    for clock in clocks {
+        if *clock < last || !is_time(*clock) {
+            return false;
+        }
+        last = *clock;
+    }
+    true
 }
 
 // Whether there is room for a report of each of the 48 entries, and for two numbers of each of so many prunes.

@@ -2,6 +2,8 @@
 ghost use Rattle.std.specs.Prelude.{◌<◌, ◌≡◌, true};
 ghost use Rattle.std.specs.Int.Count.{count_leading_zeros};
 ghost use Rattle.rules.specs.Numbers.{is_shard};
+ghost use Rattle.rules.specs.Prune.{readable};
+ghost use Rattle.store.specs.Departures.{plain_departure};
 
 use lists::front::Front;
 use store::departures::{Departure, Departures};
@@ -25,13 +27,18 @@ pub struct View {
     pub seen: Front<Seen, 32>,
 }
 
+// Readable unstamped, or while the clock is not past until.
+pub fn is_readable(d: Departure, time: Time) -> bool
+    ensures { result ≡ readable time.0 (plain_departure d) }
+{
+    d.until.is_none_or(|until| time <= until)
+}
+
 impl Seen {
     ghost use Rattle.rules.specs.Good.{GoodDeparture};
-    ghost use Rattle.store.specs.Departures.{plain_departure};
     ghost use Rattle.rules.specs.Over.{is_owner, is_after, is_over, counts_before};
     ghost use Rattle.judge.specs.View.{Sees, departure_of};
 
-    // Readable unstamped, or while the clock is not past until.
     #[tactic(auto, using(crate::proofs::Filling::few_zeros))]
     pub fn of(d: Departure, time: Time) -> Seen
         requires { GoodDeparture (plain_departure d) }
@@ -41,7 +48,7 @@ impl Seen {
             shard: d.shard,
             zeros: d.shard.0.leading_zeros(),
             cut: d.cut,
-            is_readable: d.until.is_none_or(|until| time <= until),
+            is_readable: is_readable(d, time),
         }
     }
 

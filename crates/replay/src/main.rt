@@ -3,17 +3,17 @@
 
 mod changing;
 mod dump;
+mod lines;
 mod reading;
 mod replies;
 
 use calls::making;
-use script::calls::{BUNDLE, DUMP, RESTORE};
 use script::{Line, Reader, Writer};
 use types::Shard;
 
 // Line by line to the end of the script, or to a line that is malformed or names a call that is not there. `repeat` says how often the next
 // call is made, where one waits for its call.
-#[tactic(auto, using(crate::proofs::Replied::changed_held))]
+#[tactic(auto, using(crate::proofs::Replied::did_held))]
 fn main(rt: HostRuntime) {
     let mut reader = Reader::new(rt.stdin());
     let mut writer = Writer::new(rt.stdout());
@@ -35,18 +35,9 @@ fn main(rt: HostRuntime) {
             Line::Call(call) => call,
             _ => return replies::stop(&mut writer, at),
         };
-        let code = call.code;
         let times = repeat.take().unwrap_or(1);
-        let words = &numbers[..call.count];
-        let list = &mut lent[..call.lent];
-        // By the order of the table: the makings, the changing calls up to `bundle`, the readings up to `dump`, of which `put_reply` writes what is
-        // held.
-        let reply = match code.place {
-            ..=RESTORE => changing::renew(&mut ledger, code, words, times),
-            ..=BUNDLE => changing::apply(&mut ledger, code, words, list, times),
-            ..DUMP => reading::ask(&ledger, code, words, list, times).map(|answer| [answer, 0, 0]),
-            _ => Ok([0; 3]),
-        };
+        let reply = lines::carry_out(&mut ledger, call, &numbers, &mut lent, times);
+        let list = &lent[..call.lent];
         replies::put_reply(&mut writer, call, reply, &ledger, list);
     }
     writer.flush();

@@ -1,7 +1,8 @@
 // The readings of a script.
 ghost use Rattle.ledger.specs.Contents.{Held};
-ghost use Rattle.replay.specs.Lines.{Asked};
+ghost use Rattle.replay.specs.Lines.{Asked, first_in};
 
+use crate::replies::Reply;
 use dispatch::reading;
 use ledger::Ledger;
 use script::FILL;
@@ -27,4 +28,15 @@ pub fn ask(
         answer = reading::ask(ledger, kind, words, list);
     }
     answer
+}
+
+// The same as a line's answers: what is answered is the first.
+pub fn answer(ledger: &Ledger, code: Code, words: &[u64], list: &mut [u64], times: u64) -> Reply
+    requires { Held ledger.now }
+    ensures { Asked code.place words.now ledger.now list.old list.new (first_in result) }
+{
+    match ask(ledger, code, words, list, times) {
+        Ok(answer) => Ok([answer, 0, 0]),
+        Err(refusal) => Err(refusal),
+    }
 }

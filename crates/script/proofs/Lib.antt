@@ -2,3 +2,4 @@
 -- Assumes nothing.
 pub mod Digits
 pub mod Grammar
+pub mod Table

@@ -47,7 +47,9 @@ impl<R: Read> Reader<R> {
     }
 
     // The next line, or none at the end of the input; reads on where the buffer does not hold the whole of it.
-    pub fn next_line(&mut self) -> Option<Result<&[u8], TooLong>> {
+    pub fn next_line(&mut self) -> Option<Result<&[u8], TooLong>>
+        ensures { IfSome result (λ found. IfOk found (λ line. length line.now ≤ 196608)) }
+    {
         match self.find()? {
             Ok((start, end)) => {
                 let read = &*self;

@@ -63,6 +63,7 @@ fn call_in(line: &[u8], numbers: &mut [u64; 8192]) -> Option<Line>
 }
 
 // A call with what stands behind its name, where the two fit; it is lent nothing where it takes no list.
+#[tactic(auto, using(crate::proofs::Table::repeat_takes_one))]
 fn checked(code: Code, tail: Tail, first: u64) -> Option<Line>
     requires { Small tail }
     ensures { IfSome result (Fits code.place tail first) }
@@ -87,6 +88,7 @@ fn checked(code: Code, tail: Tail, first: u64) -> Option<Line>
 
 // A line that has the next call made so often; it lends nothing.
 fn repeat(tail: Tail, first: u64) -> Option<Line>
+    requires { tail.count ≡ 1 }
     ensures { IfSome result (Fits REPEAT tail first) }
 {
     if tail.lent.is_some() || first == 0 {

@@ -39,7 +39,7 @@ fn is_pair(a: RecordKey, b: Transaction, r: RecordKey, t: Transaction) -> bool
 
 impl Issuers {
     ghost use Rattle.std.specs.Prelude.{[]};
-    ghost use Rattle.lists.specs.Lists.{keep, include};
+    ghost use Rattle.lists.specs.Lists.{keep, keep_by, include};
     ghost use Rattle.lists.specs.Arrays.{rank};
     ghost use Rattle.rules.specs.Index.{names};
     ghost use Rattle.store.specs.Issuers.{Holds, Retains, pairs_in, is_not, is_before, room_for};
@@ -109,20 +109,27 @@ impl Issuers {
         self.len += 1;
     }
 
+    // Those whose flag is up, in their order.
+    pub fn retain_flagged(&mut self, stay: &[bool; 384])
+        ensures { Holds (keep_by (take self.old.len stay.now) (pairs_in self.old)) self.new }
+    {
+        let n = self.len;
+        fronts::retain(&mut self.records, &stay[..n]);
+        self.len = fronts::retain(&mut self.transactions, &stay[..n]);
+    }
+
     // Those whose transaction passes, in their order.
     pub fn retain<F: Fn(Transaction) -> bool>(&mut self, stays: F)
         requires { (t : _) → F.pre stays t }
         ensures { Retains (λ t. FnReturns F.Fn stays (t, tt)) self.old self.new }
     {
         let mut stay = [false; 384];
-        let n = self.len;
         // By place: each flag stands beside its transaction.
-        for i in 0..n {
+        for i in 0..self.len {
             let tx = Transaction(self.transactions[i]);
             stay[i] = stays(tx);
         }
-        fronts::retain(&mut self.records, &stay[..n]);
-        self.len = fronts::retain(&mut self.transactions, &stay[..n]);
+        self.retain_flagged(&stay);
     }
 
     // The pairs of a transaction taken out.

@@ -40,6 +40,21 @@ unfolding depth
 depth-some zero = refl
 depth-some (suc n) = ap depth (max-eq_left (let z : 1 ≤ suc n = omega arith in z))
 
+-- the depth as 63 less the leading zeros
+pub depth-by : (n : ℕ) → n < 2 ^ 64 → min (63 - count_leading_zeros 64 (max n 1)) 32 ≡ depth n
+depth-by n h =
+    let found = leading_top 64 (max n 1) (some n) (small n h) in
+    let top : 63 - count_leading_zeros 64 (max n 1) ≡ found.0 = omega (arith, found.1) in
+    ap (λ k. min k 32) top ∙ depth-is (max n 1) found.0 found.2 found.3 ∙ depth-some n
+  where
+    some : (n : ℕ) → 0 < max n 1
+    some zero = omega arith
+    some (suc n) = omega (arith, max-eq_left (let z : 1 ≤ suc n = omega arith in z))
+
+    small : (n : ℕ) → n < 2 ^ 64 → max n 1 < 2 ^ 64
+    small zero h = omega arith
+    small (suc n) h = omega (arith, max-eq_left (let z : 1 ≤ suc n = omega arith in z))
+
 -- it is no higher than the limit
 bit_limit : (limit n : ℕ) → highest_bit limit n ≤ limit
 bit_limit zero n = omega arith

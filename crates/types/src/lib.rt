@@ -106,7 +106,7 @@ impl Shard {
     pub fn depth(self) -> u32
         ensures { result ≡ depth self.0 }
     {
-        self.0.max(1).ilog2().min(32)
+        (63 - self.0.max(1).leading_zeros()).min(32)
     }
 
     // Whether the route's top bits are the shard's path: led by a one bit the route is compared in one shift by what is not depth, and

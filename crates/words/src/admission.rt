@@ -21,7 +21,22 @@ pub struct Admission<'a> {
     pub ghost formed: { admission_formed parts.words.now ≡ true },
 }
 
-#[tactic(auto, using(crate::proofs::Forms::not_sized), unfolding(rules::specs::Words::admission_timed, rules::specs::Words::admission_placed, rules::specs::Words::admission_terms))]
+// Answered for any words, formed or not: those past the end read as 0.
+#[tactic(auto, unfolding(rules::specs::Words::admission_timed))]
+pub fn admission_timed(words: &[u64]) -> bool
+    ensures { result ≡ admission_timed words.now }
+{
+    is_time(word_at(words, 4)) && is_time(word_at(words, 5)) && is_time(word_at(words, 6))
+}
+
+#[tactic(auto, unfolding(rules::specs::Words::admission_terms))]
+pub fn admission_transaction(words: &[u64]) -> Transaction
+    ensures { number_of result ≡ (admission_terms words.now).transaction }
+{
+    Transaction::read(words, 3)
+}
+
+#[tactic(auto, using(crate::proofs::Forms::not_sized), unfolding(rules::specs::Words::admission_placed))]
 impl<'a> Admission<'a> {
     pub fn read(words: &'a [u64]) -> Option<Admission<'a>>
         ensures { MatchOption result (admission_formed words.now ≡ false) (λ a. a.parts.words.now ≡ words.now) }
@@ -37,8 +52,7 @@ impl<'a> Admission<'a> {
     pub fn is_timed(self) -> bool
         ensures { result ≡ admission_timed self.entry.parts.words.now }
     {
-        let words = self.parts.words;
-        is_time(word_at(words, 4)) && is_time(word_at(words, 5)) && is_time(word_at(words, 6))
+        admission_timed(self.parts.words)
     }
 
     pub fn is_placed(self) -> bool
@@ -51,7 +65,7 @@ impl<'a> Admission<'a> {
     pub fn transaction(self) -> Transaction
         ensures { number_of result ≡ (admission_terms self.entry.parts.words.now).transaction }
     {
-        Transaction::read(self.parts.words, 3)
+        admission_transaction(self.parts.words)
     }
 
     // Whether it is not decomposed.

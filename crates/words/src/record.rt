@@ -41,6 +41,29 @@ fn group_timed(words: &[u64], at: usize) -> bool
         && is_time(word_at(words, at + 3))
 }
 
+// The shard whose record it is. This and where routes lie are answered for any words, formed or not.
+pub fn record_shard(words: &[u64]) -> Shard
+    ensures { result.0 ≡ record_shard words.now }
+{
+    Shard(word_at(words, 1))
+}
+
+// Where the routes of n groups start.
+pub fn reaches_at(n: usize) -> usize
+    requires { n ≤ 48 }
+    ensures { result ≡ 2 + n + 5 * n }
+{
+    2 + n + 5 * n
+}
+
+// How many routes the i-th group has.
+pub fn reach_at(words: &[u64], i: usize) -> usize
+    requires { i < 48 }
+    ensures { result ≡ reach_at words.now i }
+{
+    size_at(words, 2 + i)
+}
+
 #[tactic(auto, using(crate::proofs::Groups::recorded))]
 impl<'a> Record<'a> {
     pub fn read(words: &'a [u64]) -> Option<Record<'a>>
@@ -64,7 +87,7 @@ impl<'a> Record<'a> {
     pub fn shard(self) -> Shard
         ensures { result.0 ≡ record_shard self.entry.words.now }
     {
-        Shard(word_at(self.words, 1))
+        record_shard(self.words)
     }
 
     pub fn is_timed(self) -> bool
@@ -87,8 +110,7 @@ impl<'a> Record<'a> {
     pub fn reaches_at(self) -> usize
         ensures { result ≡ reaches_at self.entry.words.now }
     {
-        let n = self.len();
-        2 + n + 5 * n
+        reaches_at(self.len())
     }
 
     // How many routes the i-th group has.
@@ -96,7 +118,7 @@ impl<'a> Record<'a> {
         requires { i < group_count self.words.now }
         ensures { result ≡ reach_at self.entry.words.now i }
     {
-        size_at(self.words, 2 + i)
+        reach_at(self.words, i)
     }
 
     // The entry that the i-th group brings back. Its routes start at a place, from which the remaining reaches fill the words.

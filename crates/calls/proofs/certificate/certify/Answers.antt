@@ -14,7 +14,7 @@ known ByAbandonment n e = omega (arith, e)
 known ByExecution n e = omega (arith, e)
 
 pub returns-in_default : goal.returns-in_default
-returns-in_default c = certify_code c.args.ledger.now c.requires (number_of c.args.tx) c.args.code c.in_default.ensures
+returns-in_default c = certify_code c.args.ledger.now c.requires (number_of c.args.tx) c.args.code (omega (arith, c.in_default.ensures))
 
 pub returns-in_default-slot_of : goal.returns-in_default-slot_of
 returns-in_default-slot_of c =
