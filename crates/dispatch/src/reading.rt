@@ -1,6 +1,6 @@
 // The readings by their kinds, an arm for each.
 ghost use Rattle.std.specs.Prelude.{◌≡◌, [], length};
-ghost use Rattle.rules.specs.Readings.{read};
+ghost use Rattle.rules.specs.Readings.{read, take_snapshot};
 ghost use Rattle.rules.specs.Words.{word};
 ghost use Rattle.types.specs.Transactions.{number_of};
 ghost use Rattle.ledger.specs.Contents.{Held, contents};
@@ -27,23 +27,38 @@ pub fn ask(ledger: &Ledger, kind: u64, words: &[u64], lent: &mut [u64]) -> Resul
     requires { Held ledger.now }
     ensures { Reads (read (reading_of kind words.now (length lent.old)) (contents ledger.now)) lent.old lent.new result }
 {
-    let a = word_at(words, 0);
-    let b = word_at(words, 1);
-    let tx = Transaction::read(words, 0);
     match kind {
         1 => questions(ledger, lent),
-        4 => past_deadline(ledger, Time(a), lent),
-        5 => issuers_of(ledger, a, lent),
-        6 => claimants(ledger, tx, RecordKey(b), lent),
-        7 => counterparts(ledger, tx, b, lent),
+        4 => past_deadline(ledger, Time(word_at(words, 0)), lent),
+        5 => issuers_of(ledger, word_at(words, 0), lent),
+        6 => claimants(
+            ledger,
+            Transaction::read(words, 0),
+            RecordKey(word_at(words, 1)),
+            lent,
+        ),
+        7 => counterparts(ledger, Transaction::read(words, 0), word_at(words, 1), lent),
         8 => unstamped_departures(ledger, lent),
-        9 => reach(ledger, tx, lent),
-        18 => snapshot(ledger, lent),
+        9 => reach(ledger, Transaction::read(words, 0), lent),
+        18 => whole(ledger, lent),
         19 => rebuilt_by_shard(ledger, lent),
         21 => leaves(ledger, words, lent),
-        22 => counterparts_by_tree(ledger, tx, Transaction::behind(words), lent),
+        22 => counterparts_by_tree(
+            ledger,
+            Transaction::read(words, 0),
+            Transaction::behind(words),
+            lent,
+        ),
         _ => look_up(ledger, kind, words),
     }
+}
+
+// All words of the ledger, in a function of its own, so that the place of its answer is not cleared ahead of the other arms.
+fn whole(ledger: &Ledger, lent: &mut [u64]) -> Result<u64, Refusal>
+    requires { Held ledger.now }
+    ensures { Reads (read (take_snapshot (length lent.old)) (contents ledger.now)) lent.old lent.new result }
+{
+    snapshot(ledger, lent)
 }
 
 // A lookup: a reading that is lent no list.
@@ -52,21 +67,22 @@ fn look_up(ledger: &Ledger, kind: u64, words: &[u64]) -> Result<u64, Refusal>
     requires { Held ledger.now }
     ensures { Reads (read (lookup_of kind words.now) (contents ledger.now)) [] [] result }
 {
-    let a = word_at(words, 0);
     // A transaction stands first, or second behind a record's key.
-    let tx = Transaction::read(words, 0);
-    let second = Transaction::read(words, 1);
     match kind {
         2 => open_at(ledger, words),
         3 => answers(ledger, words),
-        10 => lookups::abandonment_answers(ledger, tx),
-        11 => lookups::is_covered(ledger, tx),
-        12 => lookups::departed(ledger, tx),
-        13 => lookups::executed(ledger, tx),
-        14 => lookups::reaches_beyond(ledger, tx),
-        15 => lookups::issued_by(ledger, RecordKey(a), second),
+        10 => lookups::abandonment_answers(ledger, Transaction::read(words, 0)),
+        11 => lookups::is_covered(ledger, Transaction::read(words, 0)),
+        12 => lookups::departed(ledger, Transaction::read(words, 0)),
+        13 => lookups::executed(ledger, Transaction::read(words, 0)),
+        14 => lookups::reaches_beyond(ledger, Transaction::read(words, 0)),
+        15 => lookups::issued_by(
+            ledger,
+            RecordKey(word_at(words, 0)),
+            Transaction::read(words, 1),
+        ),
         16 => lookups::local(ledger),
-        20 => lookups::leaf_for_route(ledger, a, words_behind(words, 1)),
+        20 => lookups::leaf_for_route(ledger, word_at(words, 0), words_behind(words, 1)),
         _ => lookups::rebuilt(ledger),
     }
 }

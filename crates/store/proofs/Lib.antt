@@ -7,3 +7,4 @@ pub mod Counting
 pub mod Keyed
 pub mod Dropping
 pub mod Keeping
+pub mod Fronts

@@ -1,14 +1,15 @@
 -- What the issuer index holds, as pairs.
-use Rattle.std.specs.Prelude.{ℕ, ◌≤◌, ◌≡◌, Bool, not, List, eqb, length, take}
-use Rattle.lists.specs.Lists.{keep, zip_by, include}
+use Rattle.std.specs.Prelude.{ℕ, ◌≤◌, ◌≡◌, Bool, not, List, eqb, length}
+use Rattle.lists.specs.Lists.{keep, include}
 use Rattle.rules.specs.Index.{Pair, pair_key}
 pub use Rattle.store.specs.Stored.{pair, is_pair, leads_pair}
+use Rattle.store.specs.Fronts.{pairs_of}
 use Rattle.types.specs.Transactions.{number_of}
 use Rattle.types.specs.declared.Transaction.{Transaction}
 use Rattle.store.specs.declared.issuers.Issuers.{Issuers}
 
 abbrev pub pairs_in : Issuers → List Pair
-pairs_in x = zip_by pair (take x.len x.records) (take x.len x.transactions)
+pairs_in x = pairs_of x.records x.transactions x.len
 
 -- a pair of another transaction
 abbrev pub is_not : ℕ → Pair → Bool

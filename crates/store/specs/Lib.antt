@@ -1,5 +1,6 @@
 pub mod Props
 pub mod Stored
+pub mod Fronts
 pub mod Roster
 pub mod Issuers
 pub mod Departures

@@ -1,11 +1,12 @@
 // The issuer index: which owed transactions issued the record at a key, as pairs by record and then transaction, none twice.
 ghost use Rattle.std.specs.Fn.{FnReturns};
 ghost use Rattle.std.specs.Prelude.{◌≡◌, ◌≤◌, ◌<◌, ◌^◌, length, take};
-ghost use Rattle.lists.specs.Lists.{Every, Ascending, zip_by};
+ghost use Rattle.lists.specs.Lists.{Every, Ascending, zip_by, keep_by};
 ghost use Rattle.rules.specs.Index.{pair_key};
 ghost use Rattle.types.specs.Transactions.{number_of};
 ghost use Rattle.store.specs.Props.{Below-prop, Ascending-prop};
 ghost use Rattle.store.specs.Stored.{pair, is_pair, leads_pair};
+ghost use Rattle.store.specs.Fronts.{InFront, Flags, pairs_of};
 
 use lists::fronts;
 use types::{RecordKey, Transaction};
@@ -37,9 +38,41 @@ fn is_pair(a: RecordKey, b: Transaction, r: RecordKey, t: Transaction) -> bool
     (a, b) == (r, t)
 }
 
+// Of any pairs at the front of two arrays, whatever their order, those whose flag is up, in their order; how many they are.
+pub fn retain_pairs(
+    records: &mut [u64; 384],
+    transactions: &mut [u64; 384],
+    n: usize,
+    stay: &[bool; 384],
+) -> usize
+    requires { n ≤ 384 }
+    ensures { InFront (keep_by (take n stay.now) (pairs_of records.old transactions.old n)) records.new transactions.new result }
+{
+    fronts::retain(records, &stay[..n]);
+    fronts::retain(transactions, &stay[..n])
+}
+
+// Of each of the first n transactions, whether it passes.
+pub fn flags_of<F: Fn(Transaction) -> bool>(
+    transactions: &[u64; 384],
+    n: usize,
+    stays: F,
+) -> [bool; 384]
+    requires { (n ≤ 384) × ((t : _) → F.pre stays t) }
+    ensures { Flags (λ t. FnReturns F.Fn stays (t, tt)) (take n transactions.now) (take n result) }
+{
+    let mut stay = [false; 384];
+    // By place: each flag stands beside its transaction.
+    for i in 0..n {
+        let tx = Transaction(transactions[i]);
+        stay[i] = stays(tx);
+    }
+    stay
+}
+
 impl Issuers {
     ghost use Rattle.std.specs.Prelude.{[]};
-    ghost use Rattle.lists.specs.Lists.{keep, keep_by, include};
+    ghost use Rattle.lists.specs.Lists.{keep, include};
     ghost use Rattle.lists.specs.Arrays.{rank};
     ghost use Rattle.rules.specs.Index.{names};
     ghost use Rattle.store.specs.Issuers.{Holds, Retains, pairs_in, is_not, is_before, room_for};
@@ -113,9 +146,7 @@ impl Issuers {
     pub fn retain_flagged(&mut self, stay: &[bool; 384])
         ensures { Holds (keep_by (take self.old.len stay.now) (pairs_in self.old)) self.new }
     {
-        let n = self.len;
-        fronts::retain(&mut self.records, &stay[..n]);
-        self.len = fronts::retain(&mut self.transactions, &stay[..n]);
+        self.len = retain_pairs(&mut self.records, &mut self.transactions, self.len, stay);
     }
 
     // Those whose transaction passes, in their order.
@@ -123,12 +154,7 @@ impl Issuers {
         requires { (t : _) → F.pre stays t }
         ensures { Retains (λ t. FnReturns F.Fn stays (t, tt)) self.old self.new }
     {
-        let mut stay = [false; 384];
-        // By place: each flag stands beside its transaction.
-        for i in 0..self.len {
-            let tx = Transaction(self.transactions[i]);
-            stay[i] = stays(tx);
-        }
+        let stay = flags_of(&self.transactions, self.len, stays);
         self.retain_flagged(&stay);
     }
 
