@@ -22,6 +22,10 @@ none-gone (b ∷ bs) [] ps e = refl
 none-gone (true ∷ bs) (t ∷ ts) ps e = none-gone bs ts ps e
 none-gone (false ∷ bs) (t ∷ ts) ps e = absurd (omega (arith, ap length e))
 
+-- the same where those who are gone are the first n of an array, and n is 0
+pub nobody : (bs : List Bool) (ts : List ℕ) (ps : List Pair) (l : List ℕ) (n : ℕ) → take n l ≡ dropped_by bs ts → n ≡ 0 → ps ≡ unnamed_by bs ts ps
+nobody bs ts ps l n e z = sym (none-gone bs ts ps (sym e ∙ ap (λ m. take m l) z))
+
 -- those from i on whose flag is down, which are still to come
 module _ (stay : List Bool) (keys : List ℕ) (i n : ℕ) (h₂ : n ≤ length stay) (h₃ : n ≤ length keys) where
   abbrev coming : ℕ → List ℕ

@@ -12,7 +12,7 @@ use Rattle.lists.proofs.Keep.{every_map}
 use Rattle.lists.proofs.Distinct.{keep_by_test}
 use Rattle.rules.specs.Index.{Pair}
 use Rattle.store.specs.Issuers.{pair, of_transaction}
-use Rattle.store.specs.Fronts.{pairs_of}
+use Rattle.store.specs.Fronts.{front_pairs}
 use Rattle.store.proofs.Keyed.{Word, OfWord}
 
 abbrev second : Pair → ℕ
@@ -26,7 +26,7 @@ seconds (u ∷ us) (v ∷ vs) h = ap (λ m. v ∷ m) (seconds us vs (omega arith
 
 module _ (rs ts : List ℕ) (n : ℕ) (h : n ≤ length rs) (k : n ≤ length ts) where
   abbrev ps : List Pair
-  ps = pairs_of rs ts n
+  ps = front_pairs rs ts n
 
   pub same_many : length (take n rs) ≡ length (take n ts)
   same_many = length-take-le n rs h ∙ sym (length-take-le n ts k)

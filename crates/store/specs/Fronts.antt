@@ -7,14 +7,14 @@ use Rattle.types.specs.Transactions.{number_of}
 use Rattle.types.specs.declared.Transaction.{Transaction}
 
 -- the first n of them
-abbrev pub pairs_of : List ℕ → List ℕ → ℕ → List Pair
-pairs_of rs ts n = zip_by pair (take n rs) (take n ts)
+abbrev pub front_pairs : List ℕ → List ℕ → ℕ → List Pair
+front_pairs rs ts n = zip_by pair (take n rs) (take n ts)
 
 -- these pairs stand at the front
 pub record InFront (ps : List Pair) (rs ts : List ℕ) (n : ℕ) : Type 0 where
   pub room : n ≤ 384
   pub lengths : (length rs ≡ 384) × (length ts ≡ 384)
-  pub pairs : pairs_of rs ts n ≡ ps
+  pub pairs : front_pairs rs ts n ≡ ps
 
 -- By whatever test of transactions the answers are given, the flags are what it says of each: Says is what is said of a transaction that
 -- is asked about.

@@ -3,13 +3,13 @@ use Rattle.std.specs.Prelude.{ℕ, ◌≤◌, ◌≡◌, Bool, not, List, eqb, l
 use Rattle.lists.specs.Lists.{keep, include}
 use Rattle.rules.specs.Index.{Pair, pair_key}
 pub use Rattle.store.specs.Stored.{pair, is_pair, leads_pair}
-use Rattle.store.specs.Fronts.{pairs_of}
+use Rattle.store.specs.Fronts.{front_pairs}
 use Rattle.types.specs.Transactions.{number_of}
 use Rattle.types.specs.declared.Transaction.{Transaction}
 use Rattle.store.specs.declared.issuers.Issuers.{Issuers}
 
 abbrev pub pairs_in : Issuers → List Pair
-pairs_in x = pairs_of x.records x.transactions x.len
+pairs_in x = front_pairs x.records x.transactions x.len
 
 -- a pair of another transaction
 abbrev pub is_not : ℕ → Pair → Bool

@@ -6,7 +6,7 @@ ghost use Rattle.rules.specs.Index.{pair_key};
 ghost use Rattle.types.specs.Transactions.{number_of};
 ghost use Rattle.store.specs.Props.{Below-prop, Ascending-prop};
 ghost use Rattle.store.specs.Stored.{pair, is_pair, leads_pair};
-ghost use Rattle.store.specs.Fronts.{InFront, Flags, pairs_of};
+ghost use Rattle.store.specs.Fronts.{InFront, Flags, front_pairs};
 
 use lists::fronts;
 use types::{RecordKey, Transaction};
@@ -46,7 +46,7 @@ pub fn retain_pairs(
     stay: &[bool; 384],
 ) -> usize
     requires { n ≤ 384 }
-    ensures { InFront (keep_by (take n stay.now) (pairs_of records.old transactions.old n)) records.new transactions.new result }
+    ensures { InFront (keep_by (take n stay.now) (front_pairs records.old transactions.old n)) records.new transactions.new result }
 {
     fronts::retain(records, &stay[..n]);
     fronts::retain(transactions, &stay[..n])

@@ -2,7 +2,7 @@
 ghost use Rattle.std.specs.Prelude.{◌≡◌, ◌≤◌, take};
 ghost use Rattle.lists.specs.Front.{held};
 ghost use Rattle.store.specs.Roster.{keys_of};
-ghost use Rattle.store.specs.Fronts.{InFront, pairs_of};
+ghost use Rattle.store.specs.Fronts.{InFront, front_pairs};
 ghost use Rattle.store.specs.Issuers.{Holds, pairs_in};
 ghost use Rattle.store.specs.Leaving.{unnamed_by, dropped_by};
 
@@ -34,7 +34,7 @@ pub fn drop_pairs(
     stay: [bool; 48],
 ) -> usize
     requires { n ≤ 384 }
-    ensures { InFront (unnamed_by (take roster.len stay) (keys_of roster) (pairs_of records.old transactions.old n)) records.new transactions.new result }
+    ensures { InFront (unnamed_by (take roster.len stay) (keys_of roster) (front_pairs records.old transactions.old n)) records.new transactions.new result }
 {
     let gone = dropped_from(roster, stay);
     if gone.len == 0 {
@@ -57,10 +57,15 @@ fn drop_from(issuers: &mut Issuers, roster: Roster, stay: [bool; 48])
     );
 }
 
-// The index without the pairs of those whose flag is down.
+// The index without the pairs of those whose flag is down. Where nobody leaves it is handed back as it came, since a copy to change would
+// cost more than all else.
 pub fn without_dropped(issuers: Issuers, roster: Roster, stay: [bool; 48]) -> Issuers
     ensures { Holds (unnamed_by (take roster.len stay) (keys_of roster) (pairs_in issuers)) result }
 {
+    let gone = dropped_from(roster, stay);
+    if gone.len == 0 {
+        return issuers;
+    }
     let mut x = issuers;
     drop_from(&mut x, roster, stay);
     x

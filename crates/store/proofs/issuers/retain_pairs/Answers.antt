@@ -5,13 +5,13 @@ use Rattle.lists.specs.Lists.{keep_by, zip_by}
 use Rattle.lists.specs.Arrays.{Kept}
 use Rattle.lists.proofs.Zip.{kept-length, kept-pairs}
 use Rattle.store.specs.Stored.{pair}
-use Rattle.store.specs.Fronts.{pairs_of}
+use Rattle.store.specs.Fronts.{front_pairs}
 use Rattle.store.proofs.Kept.{flagged}
 use Rattle.store.proofs.Fronts.{same_many}
 use Rattle.store.proofs.issuers.retain_pairs.Goals as goal
 
 kept : (rs ts us vs : List ℕ) (n m k : ℕ) (stay : List Bool) → n ≤ length rs → n ≤ length ts → n ≤ length stay →
-    Kept (take n stay) rs us m → Kept (take n stay) ts vs k → pairs_of us vs k ≡ keep_by (take n stay) (pairs_of rs ts n)
+    Kept (take n stay) rs us m → Kept (take n stay) ts vs k → front_pairs us vs k ≡ keep_by (take n stay) (front_pairs rs ts n)
 kept rs ts us vs n m k stay h i j o p =
     let f = take n stay in
     let many : length f ≡ n = length-take-le n stay j in

@@ -5,8 +5,8 @@ use Rattle.lists.specs.Front.{held}
 use Rattle.lists.proofs.Keep.{keep_same}
 use Rattle.rules.specs.Index.{Pair}
 use Rattle.store.specs.Roster.{keys_of}
-use Rattle.store.specs.Fronts.{pairs_of}
-use Rattle.store.proofs.Dropping.{none-gone, apart, remains, unnamed_keep, gone-among}
+use Rattle.store.specs.Fronts.{front_pairs}
+use Rattle.store.proofs.Dropping.{nobody, apart, remains, unnamed_keep, gone-among}
 use Rattle.store.proofs.Fronts.{kept_by_test}
 use Rattle.store.proofs.leaving.drop_pairs.Goals as goal
 
@@ -14,11 +14,10 @@ pub returns-then-gone-eq0 : goal.returns-then-gone-eq0
 returns-then-gone-eq0 c =
     let g = c.dropped_from-gone in
     let a = c.args in
-    let none = sym g.ensures ∙ ap (λ m. take m g.result.items) c.if-gone-eq0.true in
     record {
       room = c.requires;
       lengths = (search rules, search rules);
-      pairs = sym (none-gone (take a.roster.len a.stay) (keys_of a.roster) (pairs_of a.records.now a.transactions.now a.n) none);
+      pairs = nobody (take a.roster.len a.stay) (keys_of a.roster) (front_pairs a.records.now a.transactions.now a.n) g.result.items g.result.len g.ensures c.if-gone-eq0.true;
     }
 
 pub returns : goal.returns
@@ -28,7 +27,7 @@ returns c =
     let ts = held g.result in
     let bs = take a.roster.len a.stay in
     let ks = keys_of a.roster in
-    let ps = pairs_of a.records.now a.transactions.now a.n in
+    let ps = front_pairs a.records.now a.transactions.now a.n in
     let same : (y : Pair) → apart ts y ≡ remains bs ks y = λ y. ap not (ap (has self y.transaction) g.ensures ∙ sym (gone-among bs ks y.transaction)) in
     let flags = c.flags_of-left.ensures (λ t. not (has self t ts)) (λ t b q. search (rules, tests)) in
     let k = c.retain_pairs.ensures in
